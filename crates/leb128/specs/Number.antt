@@ -1,8 +1,8 @@
 -- Numbers in groups of seven bits, lowest group first, shortest form only, in at most k groups.
-use Prim.Native.Nat.{ℕ, zero, suc, _+_, _-_, _*_, _/_, _%_, _^_}
+use Prim.Native.Nat.{ℕ, zero, suc, _+_, _-_, _*_, _/_, _%_, _^_, _<_}
 use mathlib.Core.List.{List, [], _∷_}
 use mathlib.Core.Bool.{Bool, true, false, cond}
-use lib.ListN.{length, drop}
+use lib.ListN.{length, drop, getD}
 use lib.Seq.{sets}
 use lib.Dec.{ltb, leb, eqb}
 use Rattle.leb128.specs.declared.NumberRead.{NumberRead}
@@ -16,6 +16,10 @@ planGroups = 3
 
 unfoldable pub jobGroups : ℕ
 jobGroups = 5
+
+-- every element is a byte
+unfoldable pub Bytes : List ℕ → Type 0
+Bytes s = (i : ℕ) → getD s i 0 < 256
 
 -- ---- the shortest form
 
