@@ -267,7 +267,7 @@ pub record Within (k : ℕ) (s : List ℕ) (at next : ℕ) : Type 0 where
   pub end : next ≤ length s
 
 module _ (k : ℕ) (s : List ℕ) (at v next : ℕ) (e : read k s at ≡ Value v next) where
-  given : Given at v next (decode k (drop at s))
+  pub given : Given at v next (decode k (drop at s))
   unfolding read
   given = given-by at v next (decode k (drop at s)) e
 

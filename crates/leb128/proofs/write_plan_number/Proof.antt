@@ -1,3 +1,10 @@
+-- `write_plan_number` meets its contract: by the number's size, its form is written where there is room. Assumes nothing.
+use native.Mathlib.Omega.{arith}
+use native.Mathlib.Numerals.{add-one}
+use lib.ListN.{length-set}
+use Rattle.leb128.specs.Number.{planGroups}
+use Rattle.leb128.proofs.Laws.{encode-last, encode-some}
+use Rattle.leb128.proofs.Write.{add-two, encode-two, encode-three, two-or-more, three-or-more, too-large, no-room, room}
 use borrow.Author.Needs.{needs}
 use Rattle.leb128.proofs.write_plan_number.Statement.{statement}
 use Rattle.leb128.proofs.write_plan_number.Tie as tie
@@ -6,11 +13,13 @@ use Rattle.leb128.proofs.write_plan_number.Lts as lts
 
 -- src/lib.rt:109:9
 returns : tie.Need-returns
-returns c = ?
+unfolding planGroups
+returns c = too-large 3 _ _ _ (c .if1 .taken)
 
 -- src/lib.rt:112:9
 returns-2 : tie.Need-returns-2
-returns-2 c = ?
+unfolding planGroups
+returns-2 c = no-room 3 _ _ _ (c .before .if1 .left) (omega (arith, encode-some 3 (c .before .before .args .value) (omega arith)))
 
 -- src/lib.rt:114:16
 sub-room : tie.Need-sub-room
@@ -34,11 +43,15 @@ same-length c = search needs
 
 -- src/lib.rt:117:9
 returns-3 : tie.Need-returns-3
-returns-3 c = ?
+unfolding planGroups
+returns-3 c =
+    let a = c .before .before .before .args in
+    room 3 (a .out .now) (a .at) (a .value) _ (encode-last 2 (a .value) (c .if3 .taken)) (c .before .before .if1 .left) (omega arith)
 
 -- src/lib.rt:120:9
 returns-4 : tie.Need-returns-4
-returns-4 c = ?
+unfolding planGroups
+returns-4 c = no-room 3 _ _ _ (c .before .before .before .if1 .left) (omega (arith, two-or-more 1 (c .before .before .before .before .args .value) (c .before .if3 .left)))
 
 -- src/lib.rt:123:20
 add-out : tie.Need-add-out
@@ -62,7 +75,7 @@ add-out-2 c = search needs
 
 -- src/lib.rt:124:9
 slice-write-out-3 : tie.Need-slice-write-out-3
-slice-write-out-3 c = ?
+slice-write-out-3 c = simp length-set (omega arith)
 
 -- src/lib.rt:125:36
 add-t14 : tie.Need-add-t14
@@ -74,11 +87,15 @@ same-length-2 c = search needs
 
 -- src/lib.rt:125:9
 returns-5 : tie.Need-returns-5
-returns-5 c = ?
+unfolding planGroups
+returns-5 c =
+    let a = c .before .before .before .before .before .args in
+    simp add-one (room 3 (a .out .now) (a .at) (a .value) _ (encode-two 1 (a .value) (c .before .before .if3 .left) (c .if5 .taken)) (c .before .before .before .before .if1 .left) (omega arith))
 
 -- src/lib.rt:128:9
 returns-6 : tie.Need-returns-6
-returns-6 c = ?
+unfolding planGroups
+returns-6 c = no-room 3 _ _ _ (c .before .before .before .before .before .if1 .left) (omega (arith, three-or-more 0 (c .before .before .before .before .before .before .args .value) (c .before .if5 .left)))
 
 -- src/lib.rt:130:16
 add-out-3 : tie.Need-add-out-3
@@ -106,7 +123,7 @@ add-out-5 c = search needs
 
 -- src/lib.rt:131:5
 slice-write-out-5 : tie.Need-slice-write-out-5
-slice-write-out-5 c = ?
+slice-write-out-5 c = simp length-set (omega arith)
 
 -- src/lib.rt:132:19
 cast-out-6 : tie.Need-cast-out-6
@@ -118,7 +135,7 @@ add-out-6 c = search needs
 
 -- src/lib.rt:132:5
 slice-write-out-6 : tie.Need-slice-write-out-6
-slice-write-out-6 c = ?
+slice-write-out-6 c = simp length-set (omega arith)
 
 -- src/lib.rt:133:25
 add-t6 : tie.Need-add-t6
@@ -130,7 +147,10 @@ same-length-3 c = search needs
 
 -- src/lib.rt:104:1
 returns-7 : tie.Need-returns-7
-returns-7 c = ?
+unfolding planGroups
+returns-7 c =
+    let a = c .before .before .before .before .before .before .args in
+    simp (add-one, add-two) (room 3 (a .out .now) (a .at) (a .value) _ (encode-three 0 (a .value) (c .before .if5 .left) (c .before .before .before .before .before .if1 .left)) (c .before .before .before .before .before .if1 .left) (omega arith))
 
 pub write-plan-number-spec : {M : Type 1} → statement M
 write-plan-number-spec =
