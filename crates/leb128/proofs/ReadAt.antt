@@ -31,9 +31,9 @@ nothing (suc k) = refl
 pub lost-end : (k : ℕ) (s : List ℕ) (at : ℕ) → length s ≤ at → Lost k s at
 lost-end k s at h = ap (decode k) (drop-of-length-le s h) ∙ nothing k
 
-pub lost-none : (s : List ℕ) (at : ℕ) → Lost 0 s at
+pub lost-none : (k : ℕ) (s : List ℕ) (at : ℕ) → k ≡ 0 → Lost k s at
 unfolding decode
-lost-none s at = refl
+lost-none k s at e = ap (λ (j : ℕ). decode j (drop at s)) e
 
 pub found-last : (k : ℕ) (s : List ℕ) (at : ℕ) → at < length s → getD s at 0 < 128 → Found (suc k) s at (getD s at 0) 1
 found-last k s at h l = ap (decode (suc k)) (drop-cons s at 0 h) ∙ decode-last k (getD s at 0) (drop (suc at) s) l
@@ -71,42 +71,48 @@ pub answer-lost : (k : ℕ) (s : List ℕ) (at : ℕ) → Lost k s at → Refuse
 unfolding read answered
 answer-lost k s at f = sym (ap (answered at) f)
 
--- ---- one group before what is read after it
+-- ---- one group before what is read after it: g is one more than k, and o the offset after at
 
-module _ (k : ℕ) (s : List ℕ) (at : ℕ) (here : at < length s) (follows : 128 ≤ getD s at 0) where
-  -- after a refusal
+module _
+    (k g : ℕ) (grow : suc k ≡ g) (s : List ℕ) (at o : ℕ) (next : suc at ≡ o) (here : at < length s) (follows : 128 ≤ getD s at 0) where
+  as-grown : (r : NumberRead) → r ≡ read (suc k) s at → r ≡ read g s at
+  as-grown r e = e ∙ ap (λ (j : ℕ). read j s at) grow
+
+  whole : (v n : ℕ) → Found k s o v n → 1 ≤ v → Found (suc k) s at (getD s at 0 - 128 + 128 * v) (suc n)
+  whole v n f p = found-more k s at o here follows next v n f p
+
   refused-word :
-      (p v n : ℕ) (t : Bool) → ltb v (2 ^ 32) ≡ t → Found k s (suc at) v n → cond t (Value v (suc at + n)) (Refused (suc at)) ≡ Refused p →
+      (p v n : ℕ) (t : Bool) → ltb v (2 ^ 32) ≡ t → Found k s o v n → cond t (Value v (o + n)) (Refused o) ≡ Refused p →
       Refused at ≡ read (suc k) s at
   refused-word p v n true h f e = let z : _≡_ {A = ℕ} 0 1 = cc in absurd (omega arith)
   refused-word p v n false h f e =
-      let w : 2 ^ 32 ≤ v = ltb-false v (2 ^ 32) h in
-      answer-wide (suc k) s at _ (suc n) (found-more k s at (suc at) here follows refl v n f (omega arith)) (omega arith)
+      let w : 2 ^ 32 ≤ v = ltb-false v (2 ^ 32) h in answer-wide (suc k) s at _ (suc n) (whole v n f (omega arith)) (omega arith)
 
-  refused-by : (p : ℕ) (d : Decoded) → decode k (drop (suc at) s) ≡ d → answered (suc at) d ≡ Refused p → Refused at ≡ read (suc k) s at
+  refused-by : (p : ℕ) (d : Decoded) → decode k (drop o s) ≡ d → answered o d ≡ Refused p → Refused at ≡ read (suc k) s at
   unfolding answered
   refused-by p (number v n) f e = refused-word p v n (ltb v (2 ^ 32)) refl f e
-  refused-by p malformed f e = answer-lost (suc k) s at (lost-more k s at (suc at) here follows refl f)
+  refused-by p malformed f e = answer-lost (suc k) s at (lost-more k s at o here follows next f)
 
-  pub refused-rest : (p : ℕ) → read k s (suc at) ≡ Refused p → Refused at ≡ read (suc k) s at
+  -- after a refusal
+  pub rest-refused : (p : ℕ) → read k s o ≡ Refused p → Refused at ≡ read g s at
   unfolding read
-  refused-rest p e = refused-by p (decode k (drop (suc at) s)) refl e
+  rest-refused p e = as-grown (Refused at) (refused-by p (decode k (drop o s)) refl e)
 
   -- after a value
-  module _ (v next : ℕ) (e : read k s (suc at) ≡ Value v next) where
-    pub value-zero : v ≡ 0 → Refused at ≡ read (suc k) s at
-    value-zero z =
-        answer-lost (suc k) s at
-        (lost-zero k s at (suc at) here follows refl v (next - suc at) (given k s (suc at) v next e .0) z)
+  module _ (v end : ℕ) (e : read k s o ≡ Value v end) where
+    pub rest-zero : v ≡ 0 → Refused at ≡ read g s at
+    rest-zero z =
+        as-grown (Refused at)
+        (answer-lost (suc k) s at (lost-zero k s at o here follows next v (end - o) (given k s o v end e .0) z))
 
-    whole : 1 ≤ v → Found (suc k) s at (getD s at 0 - 128 + 128 * v) (suc (next - suc at))
-    whole p = found-more k s at (suc at) here follows refl v (next - suc at) (given k s (suc at) v next e .0) p
+    rest-whole : (v ≡ 0 → ⊥) → Found (suc k) s at (getD s at 0 - 128 + 128 * v) (suc (end - o))
+    rest-whole p = whole v (end - o) (given k s o v end e .0) (omega arith)
 
-    pub value-more :
-        1 ≤ v → getD s at 0 - 128 + 128 * v < 2 ^ 32 → Value (getD s at 0 - 128 + 128 * v) next ≡ read (suc k) s at
-    value-more p w =
-        ap (λ (i : ℕ). Value (getD s at 0 - 128 + 128 * v) i) (omega (arith, value-within k s (suc at) v next e .later))
-        ∙ answer-value (suc k) s at _ (suc (next - suc at)) (whole p) w
+    pub rest-value :
+        (v ≡ 0 → ⊥) → getD s at 0 - 128 + 128 * v < 2 ^ 32 → Value (getD s at 0 - 128 + 128 * v) end ≡ read g s at
+    rest-value p w =
+        ap (λ (i : ℕ). Value (getD s at 0 - 128 + 128 * v) i) (omega (arith, value-within k s o v end e .later))
+        ∙ as-grown _ (answer-value (suc k) s at _ (suc (end - o)) (rest-whole p) w)
 
-    pub value-wide : 1 ≤ v → 2 ^ 32 ≤ getD s at 0 - 128 + 128 * v → Refused at ≡ read (suc k) s at
-    value-wide p w = answer-wide (suc k) s at _ (suc (next - suc at)) (whole p) w
+    pub rest-wide : (v ≡ 0 → ⊥) → 2 ^ 32 ≤ getD s at 0 - 128 + 128 * v → Refused at ≡ read g s at
+    rest-wide p w = as-grown (Refused at) (answer-wide (suc k) s at _ (suc (end - o)) (rest-whole p) w)

@@ -1,5 +1,6 @@
 -- `read_plan_number` meets its contract: each answer follows the groups read so far. Assumes nothing.
 use Prim.Native.Nat.{_+_}
+use mathlib.Core.Path.{refl}
 use native.Mathlib.Omega.{arith}
 use Rattle.leb128.specs.Number.{planGroups}
 use Rattle.leb128.proofs.ReadAt.{lost-end, lost-none, found-last, found-more, lost-zero, lost-more, answer-value, answer-lost}
@@ -152,7 +153,7 @@ unfolding planGroups
 returns-9 c =
     let a = c .before .before .before .before .before .before .before .before .before .before .args in
     let s = a .bytes .now in
-    let d = lost-more 0 s (a .at + 2) (a .at + 3) (omega arith) (c .if8 .left) (omega arith) (lost-none s (a .at + 3)) in
+    let d = lost-more 0 s (a .at + 2) (a .at + 3) (omega arith) (c .if8 .left) (omega arith) (lost-none 0 s (a .at + 3) refl) in
     let b = lost-more 1 s (a .at + 1) (a .at + 2) (omega arith) (c .before .before .before .before .if4 .left) (omega arith) d in
     answer-lost 3 s (a .at) (lost-more 2 s (a .at) (a .at + 1) (c .before .before .before .before .before .before .before .before .before .if1 .left) (c .before .before .before .before .before .before .before .if2 .left) (omega arith) b)
 
