@@ -1,0 +1,4 @@
+pub mod Laws
+pub mod OneForm
+pub mod ReadAt
+pub mod Write
