@@ -3,3 +3,4 @@ pub mod Rows
 pub mod Plan
 pub mod Lists
 pub mod OneForm
+pub mod Steps

@@ -8,6 +8,8 @@ use Rattle.graph.specs.declared.Edge.{Edge}
 use Rattle.graph.specs.declared.Cursor.{Cursor}
 use Rattle.graph.specs.declared.EdgeRead.{EdgeRead}
 use Rattle.graph.specs.declared.EdgeRead.the-variants.{Next, Fault}
+use Rattle.graph.specs.declared.Header.{Header}
+use Rattle.graph.specs.declared.Header.the-variants.{Counts, HeaderFault}
 use Rattle.graph.specs.declared.PlanRead.{PlanRead}
 use Rattle.graph.specs.declared.PlanRead.the-variants.{Sizes, Refused}
 use Rattle.graph.specs.Rows.{take, taking, vertexCountRows, edgeCountRows, tailRows, headRows, costRows}
@@ -52,12 +54,20 @@ unfoldable pub edgesFrom : ℕ → ℕ → List ℕ → Cursor → Decoded
 edgesFrom v zero s c = cond (ltb (c .at) (length s)) (refused 7 (c .at)) (accepted v [])
 edgesFrom v (suc m) s c = onward (edgesFrom v m s) (nextEdge v s c)
 
+-- V and M, each through its rows
+unfoldable pub header : List ℕ → Header
+header s =
+    taking (take s 0 vertexCountRows) HeaderFault (λ v at.
+    taking (take s at edgeCountRows) HeaderFault (λ m at′.
+    Counts v m at′))
+
+unfoldable pub afterHeader : List ℕ → Header → Decoded
+afterHeader s (Counts v m at) = edgesFrom v m s (firstAt at)
+afterHeader s (HeaderFault n p) = refused n p
+
 -- the whole plan
 unfoldable pub decode : List ℕ → Decoded
-decode s =
-    taking (take s 0 vertexCountRows) refused (λ v at.
-    taking (take s at edgeCountRows) refused (λ m at′.
-    edgesFrom v m s (firstAt at′)))
+decode s = afterHeader s (header s)
 
 -- the answer of a check: V and M, or the refusal
 unfoldable pub sizes : Decoded → PlanRead

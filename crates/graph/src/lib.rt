@@ -1,5 +1,12 @@
 // Graphs (document 01's plans) as plan bytes and as lists of edges.
 
+// The limits of a plan: vertices (places), edges (lanes), and the dearest edge.
+pub const MAX_VERTICES: u32 = 4096;
+
+pub const MAX_EDGES: u32 = 32768;
+
+pub const MAX_COST: u32 = 1000000;
+
 // One edge (a lane): from its tail to its head at its cost.
 pub struct Edge {
     pub tail: u32,
@@ -25,6 +32,12 @@ pub enum Taken {
 pub enum EdgeRead {
     Next(Edge, Cursor),
     Fault(u32, usize),
+}
+
+// V, M and the offset of the first edge; or a refusal, number and position.
+pub enum Header {
+    Counts(u32, u32, usize),
+    HeaderFault(u32, usize),
 }
 
 // What a whole plan is: V and M; or a refusal, number and position.

@@ -1,0 +1,5 @@
+pub mod Tests
+pub mod Rows
+pub mod Edges
+pub mod Plan
+pub mod OneForm

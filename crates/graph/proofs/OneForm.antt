@@ -1,0 +1,128 @@
+-- Exactly one byte form for each plan.
+-- Assumes nothing.
+use Prim.Native.Nat.{ℕ, zero, suc, _+_, _-_, _≤_, _<_}
+use native.Mathlib.Omega.{arith}
+use mathlib.Core.Path.{_≡_, refl, sym, ap, _∙_, subst}
+use mathlib.Core.Bool.{Bool, true, false, not, _&&_, _||_}
+use mathlib.Core.List.{List, [], _∷_, _++_, map, List·Memᴰ}
+use lib.ListN.{length, length-map}
+use lib.Dec.{ltb, leb, eqb}
+use borrow.Author.Tests.{ltb-false, le-ltb, eqb-true, eqb-false, eq-eqb, ne-eqb, not-true, not-false}
+use Rattle.leb128.specs.Number.{Bytes}
+use Rattle.graph.specs.declared.Edge.{Edge}
+use Rattle.graph.specs.Limits.{maxVertices, maxEdges, maxCost}
+use Rattle.graph.specs.Rows.{Row, row, through, vertexCountRows}
+use Rattle.graph.specs.Plan.{accepted, decode}
+use Rattle.graph.specs.Lists.{none, fault, edgesOf, listRows, edgesFault, writeFault, bytesOf}
+use Rattle.graph.specs.OneForm.{tails, heads, costs, Rewritten, Reread}
+use Rattle.graph.proofs.Tests.{or-false, or-left, or-right}
+use Rattle.graph.proofs.Rows.{Passes, through-passes, through-clear}
+use Rattle.graph.proofs.Plan.{fault≢none, Whole, whole, decode-bytes}
+
+-- ---- lists and edges
+
+pub edges-columns : (es : List Edge) → edgesOf (tails es) (heads es) (costs es) ≡ es
+unfolding edgesOf
+edges-columns [] = refl
+edges-columns (e ∷ es) = ap (λ (l : List Edge). e ∷ l) (edges-columns es)
+
+-- three equal lists are the columns of their edges
+pub record Columns (ts hs cs : List ℕ) (es : List Edge) : Type 0 where
+  pub tails-are : tails es ≡ ts
+  pub heads-are : heads es ≡ hs
+  pub costs-are : costs es ≡ cs
+
+pub columns : (ts hs cs : List ℕ) → length hs ≡ length ts → length cs ≡ length ts → Columns ts hs cs (edgesOf ts hs cs)
+unfolding edgesOf
+columns [] [] [] p q = record { tails-are = refl; heads-are = refl; costs-are = refl }
+columns [] (h ∷ hs) cs p q = absurd (omega arith)
+columns [] [] (c ∷ cs) p q = absurd (omega arith)
+columns (t ∷ ts) [] cs p q = absurd (omega arith)
+columns (t ∷ ts) (h ∷ hs) [] p q = absurd (omega arith)
+columns (t ∷ ts) (h ∷ hs) (c ∷ cs) p q =
+    let r : Columns ts hs cs (edgesOf ts hs cs) = columns ts hs cs (omega arith) (omega arith) in
+    record {
+      tails-are = ap (λ (l : List ℕ). t ∷ l) (r .tails-are);
+      heads-are = ap (λ (l : List ℕ). h ∷ l) (r .heads-are);
+      costs-are = ap (λ (l : List ℕ). c ∷ l) (r .costs-are);
+    }
+
+-- ---- what the writer takes
+
+and-true : (a b : Bool) → a && b ≡ true → (a ≡ true) × (b ≡ true)
+and-true true b p = (refl, p)
+and-true false b p = absurd (let z : _≡_ {A = ℕ} 0 1 = cc in omega arith)
+
+true-and : (a b : Bool) → a ≡ true → b ≡ true → a && b ≡ true
+true-and true b p q = q
+true-and false b p q = p
+
+-- what is known of lists that the writer takes
+pub record Takes (v : ℕ) (ts hs cs : List ℕ) : Type 0 where
+  pub some : 1 ≤ v
+  pub vertices : v ≤ maxVertices
+  pub edges : length ts ≤ maxEdges
+  pub heads-equal : length hs ≡ length ts
+  pub costs-equal : length cs ≡ length ts
+  pub passes : edgesFault v 0 0 0 (edgesOf ts hs cs) ≡ none
+
+module _ (v : ℕ) (ts hs cs : List ℕ) where
+  pub takes : writeFault v ts hs cs ≡ none → Takes v ts hs cs
+  unfolding writeFault vertexCountRows listRows
+  takes h =
+      let a = through-clear (λ x. x ≡ none) (λ n. fault n 0) (λ n. fault≢none) (vertexCountRows v) _ h in
+      let b = through-clear (λ x. x ≡ none) (λ n. fault n 0) (λ n. fault≢none) (listRows ts hs cs) _ (a .1) in
+      let n : eqb v 0 ≡ false = or-left (eqb v 0) (ltb maxVertices v) (a .0 .0) in
+      let k : ltb maxVertices v ≡ false = or-right (eqb v 0) (ltb maxVertices v) (a .0 .0) in
+      let q = and-true (eqb (length hs) (length ts)) (eqb (length cs) (length ts)) (not-false _ (b .0 .1 .0)) in
+      record {
+        some = omega (arith, eqb-false v 0 n);
+        vertices = ltb-false maxVertices v k;
+        edges = ltb-false maxEdges (length ts) (b .0 .0);
+        heads-equal = eqb-true (length hs) (length ts) (q .0);
+        costs-equal = eqb-true (length cs) (length ts) (q .1);
+        passes = b .1;
+      }
+
+  pub takes-back : Takes v ts hs cs → writeFault v ts hs cs ≡ none
+  unfolding writeFault vertexCountRows listRows
+  takes-back t =
+      through-passes (vertexCountRows v) _ _
+      (or-false _ _ (ne-eqb v 0 (λ e. omega (arith, t .some))) (le-ltb maxVertices v (t .vertices)), tt)
+      ∙ through-passes (listRows ts hs cs) _ _ (
+        le-ltb maxEdges (length ts) (t .edges),
+        (ap not (true-and _ _ (eq-eqb (length hs) (length ts) (t .heads-equal)) (eq-eqb (length cs) (length ts) (t .costs-equal))), tt),
+      )
+      ∙ t .passes
+
+-- ---- the first two statements
+
+pub rewritten : (s : List ℕ) (v : ℕ) (es : List Edge) → Bytes s → decode s ≡ accepted v es → Rewritten s v es
+rewritten s v es f h =
+    let w : Whole s v es = whole s v es h in
+    record {
+      takes =
+          takes-back v (tails es) (heads es) (costs es)
+          (record {
+            some = w .some;
+            vertices = w .vertices;
+            edges = rw (length-map es (λ (e : Edge). e .tail)) (w .edges);
+            heads-equal = length-map es (λ (e : Edge). e .head) ∙ sym (length-map es (λ (e : Edge). e .tail));
+            costs-equal = length-map es (λ (e : Edge). e .cost) ∙ sym (length-map es (λ (e : Edge). e .tail));
+            passes = rw (edges-columns es) (w .passes);
+          });
+      edges = edges-columns es;
+      bytes = w .bytes f;
+    }
+
+pub reread : (v : ℕ) (ts hs cs : List ℕ) → writeFault v ts hs cs ≡ none → Reread v ts hs cs (edgesOf ts hs cs)
+reread v ts hs cs h =
+    let t : Takes v ts hs cs = takes v ts hs cs h in
+    let k : Columns ts hs cs (edgesOf ts hs cs) = columns ts hs cs (t .heads-equal) (t .costs-equal) in
+    let l : length (edgesOf ts hs cs) ≡ length ts = sym (length-map (edgesOf ts hs cs) (λ (e : Edge). e .tail)) ∙ ap length (k .tails-are) in
+    record {
+      accepts = decode-bytes v (edgesOf ts hs cs) (t .some) (t .vertices) (omega (arith, t .edges)) (t .passes);
+      tails = k .tails-are;
+      heads = k .heads-are;
+      costs = k .costs-are;
+    }
