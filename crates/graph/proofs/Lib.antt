@@ -1,5 +1,5 @@
 pub mod Tests
 pub mod Rows
-pub mod Edges
+pub mod OneEdge
 pub mod Plan
 pub mod OneForm

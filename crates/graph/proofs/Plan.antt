@@ -25,7 +25,7 @@ use Rattle.graph.specs.Rows.{Row, row, through, take, taking, vertexCoun
 use Rattle.graph.specs.Plan.{Decoded, accepted, refused, firstAt, past, nextEdge, before, onward, edgesFrom, header, afterHeader, decode}
 use Rattle.graph.specs.Lists.{none, fault, edgeRows, edgesFault, edgeBytes, edgesBytes, bytesOf}
 use Rattle.graph.proofs.Rows.{Passes, through-passes, through-clear, Took, taking-clear, Passed, take-passed, passed-take}
-use Rattle.graph.proofs.Edges.{Read, read-edge, edge-passes, edge-bytes, edge-read-back, end-bytes, next-drop}
+use Rattle.graph.proofs.OneEdge.{Read, read-edge, edge-passes, edge-bytes, edge-read-back, end-bytes, next-drop}
 use Rattle.graph.proofs.Tests.{or-false, or-left, or-right}
 
 -- ---- the edges of an accepted plan
@@ -238,7 +238,7 @@ pub record Whole (s : List ℕ) (v : ℕ) (es : List Edge) : Type 0 where
 
 module _ (s : List ℕ) (v : ℕ) (es : List Edge) where
   whole-by : (r : Header) → header s ≡ r → afterHeader s r ≡ accepted v es → Whole s v es
-  unfolding afterHeader firstAt bytesOf
+  unfolding afterHeader bytesOf
   whole-by (HeaderFault n p) q h = absurd (accepted≢refused h)
   whole-by (Counts w m at) q h =
       let d : Headed s w m at = headed s w m at q in
@@ -262,7 +262,7 @@ module _ (s : List ℕ) (v : ℕ) (es : List Edge) where
 pub decode-bytes :
     (v : ℕ) (es : List Edge) → 1 ≤ v → v ≤ maxVertices → length es ≤ maxEdges → edgesFault v 0 0 0 es ≡ none →
     decode (bytesOf v es) ≡ accepted v es
-unfolding decode bytesOf afterHeader firstAt
+unfolding decode bytesOf afterHeader
 decode-bytes v es some few most h =
     let s : List ℕ = bytesOf v es in
     rw (header-read-back s v (length es) (edgesBytes 0 es) some few most refl)

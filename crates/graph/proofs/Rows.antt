@@ -8,6 +8,7 @@ use native.Mathlib.Omega.{arith}
 use Rattle.leb128.specs.Number.{read, planGroups}
 use Rattle.leb128.specs.declared.NumberRead.{NumberRead}
 use Rattle.leb128.specs.declared.NumberRead.the-variants.{Value, Refused}
+use Rattle.leb128.proofs.Laws.{refused-at}
 use Rattle.graph.specs.declared.Taken.{Taken}
 use Rattle.graph.specs.declared.Taken.the-variants.{Number, Bad}
 use Rattle.graph.specs.Rows.{Row, row, through, throughAll, take, taking}
@@ -75,3 +76,18 @@ module _ (s : List ℕ) (at : ℕ) (rows : ℕ → List Row) (x next : ℕ) wher
   pub passed-take : read planGroups s at ≡ Value x next → Passes (rows x) → take s at rows ≡ Number x next
   unfolding take throughAll
   passed-take e p = ap (throughAll rows at) e ∙ through-passes (rows x) (λ (n : ℕ). Bad n at) (Number x next) p
+
+-- ---- for the code that takes a number
+
+-- what is no number gets refusal 1 at its first byte
+pub take-malformed :
+    (s : List ℕ) (at : ℕ) (rows : ℕ → List Row) (p : ℕ) → read planGroups s at ≡ Refused p → Bad 1 at ≡ take s at rows
+unfolding take throughAll
+take-malformed s at rows p e = ap (Bad 1) (sym (refused-at planGroups s at p e)) ∙ sym (ap (throughAll rows at) e)
+
+-- what its rows give, else
+pub take-value :
+    (s : List ℕ) (at : ℕ) (rows : ℕ → List Row) (x next : ℕ) (t : Taken) → read planGroups s at ≡ Value x next →
+    t ≡ through (rows x) (λ (n : ℕ). Bad n at) (Number x next) → t ≡ take s at rows
+unfolding take throughAll
+take-value s at rows x next t e h = h ∙ sym (ap (throughAll rows at) e)

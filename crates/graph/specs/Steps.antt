@@ -5,26 +5,28 @@ use lib.ListN.{set}
 use Rattle.graph.specs.declared.Edge.{Edge}
 use Rattle.graph.specs.declared.Cursor.{Cursor}
 use Rattle.graph.specs.declared.Taken.{Taken}
+use Rattle.graph.specs.declared.Taken.the-variants.{Number, Bad}
 use Rattle.graph.specs.declared.EdgeRead.{EdgeRead}
 use Rattle.graph.specs.declared.EdgeRead.the-variants.{Next, Fault}
 use Rattle.graph.specs.declared.Header.{Header}
 use Rattle.graph.specs.declared.Header.the-variants.{Counts, HeaderFault}
 use Rattle.graph.specs.declared.PlanRead.{PlanRead}
 use Rattle.graph.specs.declared.PlanRead.the-variants.{Refused}
-use Rattle.graph.specs.Rows.{taking}
 
 -- a refusal carried from one answer to the next; 0 at 0 stands where there is none
 abbrev pub cursorRefusal : Taken → EdgeRead
-cursorRefusal t = taking t Fault (λ x at. Fault 0 0)
+cursorRefusal (Bad n p) = Fault n p
+cursorRefusal (Number x at) = Fault 0 0
 
 abbrev pub headerRefusal : Taken → Header
-headerRefusal t = taking t HeaderFault (λ x at. HeaderFault 0 0)
+headerRefusal (Bad n p) = HeaderFault n p
+headerRefusal (Number x at) = HeaderFault 0 0
 
-unfoldable pub edgeRefusal : EdgeRead → PlanRead
+abbrev pub edgeRefusal : EdgeRead → PlanRead
 edgeRefusal (Fault n p) = Refused n p
 edgeRefusal (Next e c) = Refused 0 0
 
-unfoldable pub planRefusal : Header → PlanRead
+abbrev pub planRefusal : Header → PlanRead
 planRefusal (HeaderFault n p) = Refused n p
 planRefusal (Counts v m at) = Refused 0 0
 
