@@ -1,5 +1,6 @@
 pub mod Tests
 pub mod Rows
 pub mod OneEdge
+pub mod Reading
 pub mod Plan
 pub mod OneForm
