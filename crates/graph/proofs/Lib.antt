@@ -2,4 +2,5 @@ pub mod Tests
 pub mod Rows
 pub mod OneEdge
 pub mod Plan
+pub mod Sorted
 pub mod OneForm

@@ -15,7 +15,7 @@ use Rattle.graph.specs.Rows.{Row, row, through, vertexCountRows}
 use Rattle.graph.specs.Plan.{accepted, decode}
 use Rattle.graph.specs.Lists.{none, fault, edgesOf, listRows, edgesFault, writeFault, bytesOf}
 use Rattle.graph.specs.OneForm.{tails, heads, costs, Rewritten, Reread}
-use Rattle.graph.proofs.Tests.{or-false, or-left, or-right}
+use Rattle.graph.proofs.Tests.{or-false, or-left, or-right, and-true, true-and}
 use Rattle.graph.proofs.Rows.{Passes, through-passes, through-clear}
 use Rattle.graph.proofs.Plan.{fault≢none, Whole, whole, decode-bytes}
 
@@ -48,14 +48,6 @@ columns (t ∷ ts) (h ∷ hs) (c ∷ cs) p q =
     }
 
 -- ---- what the writer takes
-
-and-true : (a b : Bool) → a && b ≡ true → (a ≡ true) × (b ≡ true)
-and-true true b p = (refl, p)
-and-true false b p = absurd (let z : _≡_ {A = ℕ} 0 1 = cc in omega arith)
-
-true-and : (a b : Bool) → a ≡ true → b ≡ true → a && b ≡ true
-true-and true b p q = q
-true-and false b p q = p
 
 -- what is known of lists that the writer takes
 pub record Takes (v : ℕ) (ts hs cs : List ℕ) : Type 0 where

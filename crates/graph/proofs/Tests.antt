@@ -1,8 +1,9 @@
--- Laws of `||` and `&&` for tests that fail.
+-- Laws of `||` and `&&` for tests that fail, and for tests that hold.
 -- Assumes nothing.
 use Prim.Native.Nat.{ℕ}
 use native.Mathlib.Omega.{arith}
 use mathlib.Core.Path.{_≡_, refl}
+use mathlib.Core.Logic.{_⊎_, inl, inr}
 use mathlib.Core.Bool.{Bool, true, false, _&&_, _||_}
 
 pub or-false : (a b : Bool) → a ≡ false → b ≡ false → a || b ≡ false
@@ -24,3 +25,15 @@ or-right false b p = p
 pub and-then : (a b : Bool) → a && b ≡ false → a ≡ true → b ≡ false
 and-then true b p q = p
 and-then false b p q = absurd (let z : _≡_ {A = ℕ} 0 1 = cc in omega arith)
+
+pub or-true : (a b : Bool) → a || b ≡ true → (a ≡ true) ⊎ (b ≡ true)
+or-true true b p = inl refl
+or-true false b p = inr p
+
+pub and-true : (a b : Bool) → a && b ≡ true → (a ≡ true) × (b ≡ true)
+and-true true b p = (refl, p)
+and-true false b p = absurd (let z : _≡_ {A = ℕ} 0 1 = cc in omega arith)
+
+pub true-and : (a b : Bool) → a ≡ true → b ≡ true → a && b ≡ true
+true-and true b p q = q
+true-and false b p q = p
