@@ -1,6 +1,7 @@
 pub mod Tests
 pub mod Rows
+pub mod Sorted
 pub mod OneEdge
 pub mod Plan
-pub mod Sorted
+pub mod Within
 pub mod OneForm
