@@ -103,6 +103,18 @@ module _ (v : ℕ) (s : List ℕ) (c : Cursor) (e : Edge) (c′ : Cursor) where
 -- ---- an edge passes the writer's rows exactly if it is within the limits and may follow
 
 module _ (v t l : ℕ) (e : Edge) where
+  pub passes-from : Passes (edgeRows v t l e) → From t l e
+  unfolding edgeRows
+  passes-from p =
+      record {
+        rising = ltb-false (e .tail) t (or-left (ltb (e .tail) t) (eqb (e .tail) t && ltb (e .head) l) (p .1 .1 .0));
+        above =
+            λ q. ltb-false (e .head) l
+            (and-then (eqb (e .tail) t) (ltb (e .head) l)
+            (or-right (ltb (e .tail) t) (eqb (e .tail) t && ltb (e .head) l) (p .1 .1 .0))
+            (eq-eqb (e .tail) t q));
+      }
+
   pub within-passes : EdgeWithin v e → From t l e → Passes (edgeRows v t l e)
   unfolding edgeRows
   within-passes w f = (
@@ -124,18 +136,6 @@ module _ (v t l : ℕ) (e : Edge) where
         tail = leb-false v (e .tail) (p .0);
         head = leb-false v (e .head) (p .1 .0);
         cost = ltb-false maxCost (e .cost) (p .1 .1 .1 .0);
-      }
-
-  pub passes-from : Passes (edgeRows v t l e) → From t l e
-  unfolding edgeRows
-  passes-from p =
-      record {
-        rising = ltb-false (e .tail) t (or-left (ltb (e .tail) t) (eqb (e .tail) t && ltb (e .head) l) (p .1 .1 .0));
-        above =
-            λ q. ltb-false (e .head) l
-            (and-then (eqb (e .tail) t) (ltb (e .head) l)
-            (or-right (ltb (e .tail) t) (eqb (e .tail) t && ltb (e .head) l) (p .1 .1 .0))
-            (eq-eqb (e .tail) t q));
       }
 
 -- ---- the rows that the writer asks of an edge are those that its numbers passed

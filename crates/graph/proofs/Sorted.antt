@@ -37,8 +37,8 @@ from-after f g =
       above = λ q. omega (arith, f .above (omega (arith, f .rising, g .rising)), g .above (omega (arith, f .rising, g .rising)));
     }
 
-pub after-irreflexive : (d e : Edge) → After d e → Parallel d e → ⊥
-after-irreflexive d e g p = omega (arith, g .above (sym (p .0)), p .1)
+pub after-irreflexive : (d e : Edge) → After d e → d .tail ≡ e .tail → d .head ≡ e .head → ⊥
+after-irreflexive d e g p q = omega (arith, g .above (sym p))
 
 pub after-asymmetric : {d e : Edge} → After d e → After e d → ⊥
 after-asymmetric g h =
@@ -56,7 +56,7 @@ sorted-from {t} {l} (d ∷ es) e (then f s) m =
 -- so it has one edge at most for a tail and head
 pub sorted-single : {t l : ℕ} (es : List Edge) → Sorted t l es → Single es
 sorted-single [] s = done
-sorted-single (e ∷ es) (then f s) = more (λ d m p. after-irreflexive e d (sorted-from es d s m) p) (sorted-single es s)
+sorted-single (e ∷ es) (then f s) = more (λ d m p. after-irreflexive e d (sorted-from es d s m) (p .0) (p .1)) (sorted-single es s)
 
 -- ---- sorted lists of the same edges are equal
 
@@ -80,7 +80,7 @@ others-in :
 others-in d e ds es p a s x m =
     ⊎-elim
     (λ (q : x ≡ e).
-    absurd (after-irreflexive d x (sorted-from ds x a m) (ap (λ (y : Edge). y .tail) (p ∙ sym q), ap (λ (y : Edge). y .head) (p ∙ sym q))))
+    absurd (after-irreflexive d x (sorted-from ds x a m) (ap (λ (y : Edge). y .tail) (p ∙ sym q)) (ap (λ (y : Edge). y .head) (p ∙ sym q))))
     (λ (n : List·Memᴰ x es). n)
     (List·Memᴰ·cases-cons (s x (List·Memᴰ·tail m)))
 

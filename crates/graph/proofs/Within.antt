@@ -1,6 +1,7 @@
 -- Accepted plans are within the limits and in plan order; and edges within the limits and in plan order pass.
 -- Assumes nothing.
 use Prim.Native.Nat.{ℕ, zero, suc, _+_, _≤_, _<_}
+use native.Mathlib.Omega.{arith}
 use mathlib.Core.Path.{_≡_, refl, sym, _∙_, subst}
 use mathlib.Core.Logic.{_⊎_, ⊎-elim}
 use mathlib.Core.List.{List, [], _∷_, List·Memᴰ, List·Memᴰ·head, List·Memᴰ·tail, List·Memᴰ·cases-cons, List·Memᴰ·not-nil}
@@ -53,7 +54,7 @@ module _ (s : List ℕ) (v : ℕ) (es : List Edge) (h : decode s ≡ accepted v 
       record {
         some = w .some;
         vertices = w .vertices;
-        edges = w .edges;
+        edges = omega (arith, w .edges);
         each = passes-each v 0 0 0 es (w .passes);
         single = sorted-single es accepted-sorted;
       }
