@@ -2,6 +2,7 @@ pub mod Tests
 pub mod Rows
 pub mod Sorted
 pub mod OneEdge
+pub mod Reading
 pub mod Plan
 pub mod Within
 pub mod OneForm
