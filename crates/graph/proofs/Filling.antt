@@ -20,7 +20,7 @@ use Rattle.graph.specs.Plan.{Decoded, accepted, refused, firstAt, nextEd
 use Rattle.graph.specs.Lists.{tailOf, headOf, costOf, over, edgesIn, roomFor, readAs, readAnswer, listAfter}
 use Rattle.graph.specs.Steps.{storedAt, cursorPast}
 use borrow.Author.Tests.{leb-true}
-use Rattle.graph.proofs.Tests.{and-both}
+use Rattle.graph.proofs.Tests.{and-true}
 use Rattle.graph.proofs.Plan.{First, first-of, Accepts, accepts}
 
 sizes≢refused : {v m n p : ℕ} → Refused n p ≡ Sizes v m → ⊥
@@ -250,6 +250,6 @@ module _ (s ts hs cs : List ℕ) where
 -- room in each list
 pub room-each : (m a b c : ℕ) → leb m a && leb m b && leb m c ≡ true → (m ≤ a) × ((m ≤ b) × (m ≤ c))
 room-each m a b c h =
-    let q : (leb m a && leb m b ≡ true) × (leb m c ≡ true) = and-both (leb m a && leb m b) (leb m c) h in
-    let p : (leb m a ≡ true) × (leb m b ≡ true) = and-both (leb m a) (leb m b) (q .0) in
+    let q : (leb m a && leb m b ≡ true) × (leb m c ≡ true) = and-true (leb m a && leb m b) (leb m c) h in
+    let p : (leb m a ≡ true) × (leb m b ≡ true) = and-true (leb m a) (leb m b) (q .0) in
     (leb-true m a (p .0), (leb-true m b (p .1), leb-true m c (q .1)))

@@ -91,19 +91,12 @@ module _ (v : ℕ) (s : List ℕ) where
       Accepts v m s c′ w es → Accepts v (suc m) s c w (e ∷ es)
   unfolding edgesFault edgesBytes past
   cons-accepts m c w e c′ es r k a =
-      let t : c′ .tail ≡ e .tail = ap (λ (x : Cursor). x .tail) k in
-      let l : c′ .least ≡ e .head + 1 = ap (λ (x : Cursor). x .least) k in
+      let b : Accepts v m s (past e (c′ .at)) w es = subst (λ (x : Cursor). Accepts v m s x w es) k a in
       record {
         same = a .same;
         count = ap suc (a .count);
-        passes =
-            λ i. through-passes (edgeRows v (c .tail) (c .least) e) _ _ (edge-passes r)
-            ∙ ap (λ (x : ℕ). edgesFault v x (e .head + 1) (suc i) es) (sym t)
-            ∙ ap (λ (x : ℕ). edgesFault v (c′ .tail) x (suc i) es) (sym l)
-            ∙ a .passes (suc i);
-        bytes =
-            λ f. edge-bytes r f
-            ∙ ap (λ (x : List ℕ). edgeBytes (c .tail) e ++ x) (a .bytes f ∙ ap (λ (x : ℕ). edgesBytes x es) t);
+        passes = λ i. through-passes (edgeRows v (c .tail) (c .least) e) _ _ (edge-passes r) ∙ b .passes (suc i);
+        bytes = λ f. edge-bytes r f ∙ ap (λ (x : List ℕ). edgeBytes (c .tail) e ++ x) (b .bytes f);
       }
 
   pub accepts : (m : ℕ) (c : Cursor) (w : ℕ) (es : List Edge) → edgesFrom v m s c ≡ accepted w es → Accepts v m s c w es
