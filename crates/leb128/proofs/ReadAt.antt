@@ -78,15 +78,12 @@ module _
   as-grown : (r : NumberRead) → r ≡ read (suc k) s at → r ≡ read g s at
   as-grown r e = e ∙ ap (λ (j : ℕ). read j s at) grow
 
-  whole : (v n : ℕ) → Found k s o v n → 1 ≤ v → Found (suc k) s at (getD s at 0 - 128 + 128 * v) (suc n)
-  whole v n f p = found-more k s at o here follows next v n f p
-
   refused-word :
       (p v n : ℕ) (t : Bool) → ltb v (2 ^ 32) ≡ t → Found k s o v n → cond t (Value v (o + n)) (Refused o) ≡ Refused p →
       Refused at ≡ read (suc k) s at
   refused-word p v n true h f e = let z : _≡_ {A = ℕ} 0 1 = cc in absurd (omega arith)
   refused-word p v n false h f e =
-      let w : 2 ^ 32 ≤ v = ltb-false v (2 ^ 32) h in answer-wide (suc k) s at _ (suc n) (whole v n f (omega arith)) (omega arith)
+      let w : 2 ^ 32 ≤ v = ltb-false v (2 ^ 32) h in answer-wide (suc k) s at _ (suc n) (found-more k s at o here follows next v n f (omega arith)) (omega arith)
 
   refused-by : (p : ℕ) (d : Decoded) → decode k (drop o s) ≡ d → answered o d ≡ Refused p → Refused at ≡ read (suc k) s at
   unfolding answered
@@ -106,7 +103,7 @@ module _
         (answer-lost (suc k) s at (lost-zero k s at o here follows next v (end - o) (given k s o v end e .0) z))
 
     rest-whole : (v ≡ 0 → ⊥) → Found (suc k) s at (getD s at 0 - 128 + 128 * v) (suc (end - o))
-    rest-whole p = whole v (end - o) (given k s o v end e .0) (omega arith)
+    rest-whole p = found-more k s at o here follows next v (end - o) (given k s o v end e .0) (omega arith)
 
     pub rest-value :
         (v ≡ 0 → ⊥) → getD s at 0 - 128 + 128 * v < 2 ^ 32 → Value (getD s at 0 - 128 + 128 * v) end ≡ read g s at
