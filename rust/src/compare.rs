@@ -381,3 +381,42 @@ impl<'a> Comparison<'a> {
         }
     }
 }
+
+#[cfg(test)]
+mod tests {
+    use super::*;
+
+    #[test]
+    fn an_outcome_holds_the_guards() {
+        let case = Case::ReadPlan {
+            bytes: vec![1, 0],
+            room: [0, 1, 5],
+        };
+        let outcome = run(&Reference, &case, 3);
+        assert_eq!(outcome.figures, [0, 0, 1, 0]);
+        let lengths: Vec<usize> = outcome.words.iter().map(Vec::len).collect();
+        assert_eq!(lengths, [2 * GUARD, 2 * GUARD + 1, 2 * GUARD + 5]);
+        assert_eq!(outcome.bytes[0].len(), 2 * GUARD + 2);
+        for index in 0..GUARD {
+            let mut changed = outcome.clone();
+            changed.words[1][index] ^= 1;
+            assert_ne!(changed, outcome);
+            let mut changed = outcome.clone();
+            changed.words[2][GUARD + 5 + index] ^= 1;
+            assert_ne!(changed, outcome);
+        }
+    }
+
+    #[test]
+    fn the_pattern_changes_from_case_to_case() {
+        let case = Case::WritePlanNumber {
+            room: 3,
+            at: 9,
+            value: 0,
+        };
+        let (first, second) = (run(&Reference, &case, 0), run(&Reference, &case, 1));
+        assert_eq!(first.figures, second.figures);
+        let pairs = first.bytes[0].iter().zip(&second.bytes[0]);
+        assert!(pairs.into_iter().all(|(left, right)| left != right));
+    }
+}

@@ -90,12 +90,7 @@ pub fn check_plan(bytes: &[u8]) -> Figures {
     figures_of(|figures| unsafe { secondcoop_check_plan(bytes.as_ptr(), bytes.len(), figures) })
 }
 
-pub fn read_plan(
-    bytes: &[u8],
-    tails: &mut [u32],
-    heads: &mut [u32],
-    costs: &mut [u32],
-) -> Figures {
+pub fn read_plan(bytes: &[u8], tails: &mut [u32], heads: &mut [u32], costs: &mut [u32]) -> Figures {
     // SAFETY: as above, and the lists are lent mutably and are disjoint.
     figures_of(|figures| unsafe {
         secondcoop_read_plan(

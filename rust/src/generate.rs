@@ -596,7 +596,7 @@ pub fn random_bytes(seed: u64, count: usize, sink: Sink) {
             bytes[0] = random.range(1, 6) as u8;
             bytes[1] = ((length - 2) / 3) as u8;
         }
-        let room = [random.index(8), random.index(8), random.index(8)];
+        let room = [random.index(6), random.index(6), random.index(6)];
         sink(
             Case::CheckPlan {
                 bytes: bytes.clone(),
