@@ -473,8 +473,8 @@ fn plan_cases(random: &mut Random, plan: &Plan, sink: Sink) {
     sink(plan.write_case(random.index(length)), refused(11, 0));
 }
 
-/// Valid plans of every vertex count up to 4,096, and of edge counts up to
-/// 32,768; `step` leaves out vertex counts for a shorter run.
+/// Valid plans of every vertex count up to 4,096 and of every pair of small
+/// counts; `step` leaves out vertex counts for a shorter run.
 pub fn valid_plans(seed: u64, step: usize, sink: Sink) {
     let mut random = Random::new(seed);
     for vertices in (1..=MOST_VERTICES).step_by(step) {
@@ -492,6 +492,12 @@ pub fn valid_plans(seed: u64, step: usize, sink: Sink) {
             }
         }
     }
+}
+
+/// Valid plans of many edges, up to 32,768, and of counts where the groups
+/// of a number change.
+pub fn large_plans(seed: u64, sink: Sink) {
+    let mut random = Random::new(seed);
     for (vertices, edges) in [
         (181, 32_761),
         (182, MOST_EDGES),

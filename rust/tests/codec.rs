@@ -60,6 +60,7 @@ fn valid_plans_are_read_and_written_alike() {
     generate::valid_plans(13, 1, &mut |case, known| {
         comparison.must_agree(&case, known)
     });
+    generate::large_plans(30, &mut |case, known| comparison.must_agree(&case, known));
     met(&comparison, CHECK_PLAN, &[(0, 5_000)]);
     met(&comparison, READ_PLAN, &[(0, 10_000), (11, 5_000)]);
     met(&comparison, WRITE_PLAN, &[(0, 10_000), (11, 10_000)]);
