@@ -5,5 +5,6 @@
 pub mod compare;
 pub mod ffi;
 pub mod generate;
+pub mod planner;
 pub mod random;
 pub mod reference;
