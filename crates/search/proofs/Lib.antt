@@ -1,2 +1,3 @@
 pub mod Tools
 pub mod Facts
+pub mod Moves
