@@ -4,3 +4,6 @@ pub mod Moves
 pub mod Paths
 pub mod Sound
 pub mod Near
+pub mod Least
+pub mod Reached
+pub mod Back
