@@ -7,3 +7,4 @@ pub mod Near
 pub mod Least
 pub mod Reached
 pub mod Back
+pub mod Ground
