@@ -1,6 +1,7 @@
 // Whether a planner call is admitted: its refusals, decided before anything is written, and the schedule in force.
 ghost use mathlib.Core.Path.{_≡_};
 mod consistency;
+mod rows;
 pub mod schedule;
 use graph::Cursor;
 
