@@ -7,8 +7,13 @@ use lib.Dec.{ltb}
 use Rattle.graph.specs.declared.Edge.{Edge}
 use Rattle.graph.specs.declared.EdgeRead.{EdgeRead}
 use Rattle.graph.specs.declared.EdgeRead.the-variants.{Next, Fault}
+use Rattle.graph.specs.declared.PlanRead.{PlanRead}
+use Rattle.graph.specs.declared.PlanRead.the-variants.{Sizes}
+use Rattle.graph.specs.declared.PlanRead.the-variants as plan
 use Rattle.admission.specs.declared.Tried.{Tried}
 use Rattle.admission.specs.declared.Tried.the-variants.{Holds, Breaks}
+use Rattle.admission.specs.declared.Verdict.{Verdict}
+use Rattle.admission.specs.declared.Verdict.the-variants.{Admitted, Refused}
 
 -- ---- the schedule
 
@@ -29,3 +34,10 @@ breaks h e = ltb (e .cost + getD h (e .head) 0) (getD h (e .tail) 0)
 unfoldable pub tried : List ℕ → EdgeRead → Tried
 tried h (Next e c) = cond (breaks h e) Breaks (Holds c)
 tried h (Fault n p) = Breaks
+
+-- ---- the plan
+
+-- the verdict on a plan by itself
+abbrev pub planVerdict : PlanRead → Verdict
+planVerdict (Sizes v m) = Admitted v m
+planVerdict (plan.Refused n p) = Refused n p

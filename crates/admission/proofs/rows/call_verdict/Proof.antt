@@ -1,3 +1,6 @@
+-- `call_verdict` meets its contract: its rows downwards. Assumes nothing.
+use lib.ListN.{length}
+use Rattle.admission.proofs.Verdicts.{ends-hold, tables-hold, call-8, call-9, call-10, call-11, call-last}
 use borrow.Author.Needs.{needs}
 use Rattle.admission.proofs.rows.call_verdict.Statement.{statement}
 use Rattle.admission.proofs.rows.call_verdict.Tie as tie
@@ -15,7 +18,7 @@ ends-fail-requires c κs = search needs
 
 -- src/rows.rt:72:9
 returns : tie.Need-returns
-returns c = ?
+returns c = call-8 _ _ _ _ _ _ _ _ _ _ _ _ (c .before .before .before .before .before .before .pre .0) (c .before .before .before .before .before .before .pre .1) _ (c .before .ends-fail .ensures) (c .if1 .taken)
 
 -- src/rows.rt:74:8
 tables-fail-requires : tie.Need-tables-fail-requires
@@ -23,7 +26,9 @@ tables-fail-requires c κs = search needs
 
 -- src/rows.rt:75:9
 returns-2 : tie.Need-returns-2
-returns-2 c = ?
+returns-2 c =
+    call-9 _ _ _ _ _ _ _ _ _ _ _ _ (c .before .before .before .before .before .before .before .before .pre .0) (c .before .before .before .before .before .before .before .before .pre .1) _ (c .before .before .before .ends-fail .ensures) (c .before .before .if1 .left)
+    _ (c .before .tables-fail .ensures) (c .if2 .taken)
 
 -- src/rows.rt:77:8
 schedule-fails-requires : tie.Need-schedule-fails-requires
@@ -31,7 +36,9 @@ schedule-fails-requires c κs = search needs
 
 -- src/rows.rt:78:9
 returns-3 : tie.Need-returns-3
-returns-3 c = ?
+returns-3 c =
+    call-10 _ _ _ _ _ _ _ _ _ _ _ _ (c .before .before .before .before .before .before .before .before .before .before .pre .0) (c .before .before .before .before .before .before .before .before .before .before .pre .1) _ (c .before .before .before .before .before .ends-fail .ensures) (c .before .before .before .before .if1 .left)
+    _ (c .before .before .before .tables-fail .ensures) (c .before .before .if2 .left) _ (c .before .schedule-fails .ensures) (c .if3 .taken)
 
 -- src/rows.rt:80:8
 memory-fails-requires : tie.Need-memory-fails-requires
@@ -39,15 +46,30 @@ memory-fails-requires c κs = search needs
 
 -- src/rows.rt:81:9
 returns-4 : tie.Need-returns-4
-returns-4 c = ?
+returns-4 c =
+    call-11 _ _ _ _ _ _ _ _ _ _ _ _ (c .before .before .before .before .before .before .before .before .before .before .before .before .pre .0) (c .before .before .before .before .before .before .before .before .before .before .before .before .pre .1) _ (c .before .before .before .before .before .before .before .ends-fail .ensures) (c .before .before .before .before .before .before .if1 .left)
+    _ (c .before .before .before .before .before .tables-fail .ensures) (c .before .before .before .before .if2 .left) _ (c .before .before .before .schedule-fails .ensures) (c .before .before .if3 .left)
+    _ (c .before .memory-fails .ensures) (c .if4 .taken)
 
 -- src/rows.rt:83:5
 anchor-verdict-requires : tie.Need-anchor-verdict-requires
-anchor-verdict-requires c κs = ?
+anchor-verdict-requires c κs =
+    let a = c .before .before .before .before .before .before .before .before .before .before .before .before in
+    let t = c .before .before .before .before .before .tables-fail in
+    let e = c .before .before .before .before .before .before .before .ends-fail in (
+      a .pre .1,
+      (
+        tables-hold (a .args .guide-count) (length (a .args .anchor .now)) (a .args .vertices) (length (a .args .guides .now)) (t .result) (t .ensures) (c .before .before .before .before .if2 .left),
+        ends-hold (a .args .start) (a .args .goal) (a .args .vertices) (e .result) (e .ensures) (c .before .before .before .before .before .before .if1 .left),
+      ),
+    )
 
 -- src/rows.rt:53:1
 returns-5 : tie.Need-returns-5
-returns-5 c = ?
+returns-5 c =
+    call-last _ _ _ _ _ _ _ _ _ _ _ _ (c .before .before .before .before .before .before .before .before .before .before .before .before .before .pre .0) (c .before .before .before .before .before .before .before .before .before .before .before .before .before .pre .1) _ (c .before .before .before .before .before .before .before .before .ends-fail .ensures) (c .before .before .before .before .before .before .before .if1 .left)
+    _ (c .before .before .before .before .before .before .tables-fail .ensures) (c .before .before .before .before .before .if2 .left) _ (c .before .before .before .before .schedule-fails .ensures) (c .before .before .before .if3 .left)
+    _ (c .before .before .memory-fails .ensures) (c .before .if4 .left) _ (c .anchor-verdict .ensures)
 
 pub call-verdict-spec : {M : Type 1} → statement M
 call-verdict-spec =

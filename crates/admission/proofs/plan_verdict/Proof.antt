@@ -1,0 +1,24 @@
+use borrow.Author.Needs.{needs}
+use Rattle.admission.proofs.plan_verdict.Statement.{statement}
+use Rattle.admission.proofs.plan_verdict.Tie as tie
+use Rattle.admission.proofs.plan_verdict.Reads as reads
+use Rattle.admission.proofs.plan_verdict.Lts as lts
+
+-- src/lib.rt:30:25
+enum-known-read : tie.Need-enum-known-read
+enum-known-read c = search needs
+
+-- src/lib.rt:31:27
+enum-known-read-2 : tie.Need-enum-known-read-2
+enum-known-read-2 c = search needs
+
+-- src/lib.rt:26:1
+returns : tie.Need-returns
+returns c = ?
+
+-- src/lib.rt:26:1
+returns-2 : tie.Need-returns-2
+returns-2 c = ?
+
+pub plan-verdict-spec : {M : Type 1} → statement M
+plan-verdict-spec = tie.close (tie.spec enum-known-read enum-known-read-2 returns returns-2)
