@@ -10,8 +10,10 @@ use lib.Dec.{ltb, eqb}
 use borrow.Author.Tests.{ltb-true, eqb-true, eq-eqb, ne-eqb}
 use Rattle.graph.specs.declared.Edge.{Edge}
 use Rattle.graph.specs.declared.Header.the-variants.{Counts}
+use Rattle.graph.specs.declared.PlanRead.{PlanRead}
 use Rattle.graph.specs.declared.PlanRead.the-variants.{Sizes}
-use Rattle.graph.specs.Plan.{accepted, header, afterHeader, decode, firstAt, edgesFrom, sizes}
+use Rattle.graph.specs.declared.PlanRead.the-variants as plan
+use Rattle.graph.specs.Plan.{Decoded, accepted, refused, header, afterHeader, decode, firstAt, edgesFrom, sizes}
 use Rattle.graph.specs.Lists.{Fault, none, fault, edgesIn}
 use Rattle.graph.proofs.Tests.{or-right, and-true, not-false}
 use Rattle.graph.proofs.Filling.{sized-by}
@@ -20,6 +22,7 @@ use Rattle.search.specs.Call.{Memory, Call, inForce, row, first, endsRow, table
 use Rattle.admission.specs.declared.Verdict.{Verdict}
 use Rattle.admission.specs.declared.Verdict.the-variants.{Admitted, Refused}
 use Rattle.admission.specs.Admission.{verdict, verdictOf, Decided}
+use Rattle.admission.specs.Steps.{planVerdict}
 
 -- ---- row 12, then row 13
 
@@ -111,3 +114,25 @@ module _
           pub call-last : b11 ≡ false → (r : Verdict) → r ≡ verdict v m (first last) → Is r
           unfolding verdict first row
           call-last f r e = by-rows r (rw (sym e8, f8, sym e9, f9, sym e10, f10, sym e11, f) e)
+
+-- ---- a plan that is refused
+
+sizes≢refused : {v m n p : ℕ} → Sizes v m ≡ plan.Refused n p → ⊥
+sizes≢refused h = let z : _≡_ {A = ℕ} 0 1 = cc in omega arith
+
+refused-by : (d : Decoded) (n p : ℕ) → sizes d ≡ plan.Refused n p → d ≡ refused n p
+unfolding sizes
+refused-by (accepted v es) n p h = absurd (sizes≢refused h)
+refused-by (refused k q) n p h =
+    let a : k ≡ n = cc in
+    let b : q ≡ p = cc in
+    rw (a, b)
+
+module _ (s : List ℕ) (start goal : ℕ) (anchor sheets : List ℕ) (count : ℕ) (schedule : List ℕ) (route work : ℕ) where
+  pub plan-refused :
+      (a : PlanRead) (r : Verdict) (n p : ℕ) → r ≡ planVerdict a → a ≡ sizes (decode s) → a ≡ plan.Refused n p →
+      Decided s start goal anchor sheets count schedule route work r
+  unfolding verdictOf verdict faultOf faultIn
+  plan-refused a r n p f e q =
+      let d : decode s ≡ refused n p = refused-by (decode s) n p (sym e ∙ q) in
+      record { decided = λ budget memory k l. f ∙ ap planVerdict q ∙ sym (rw d) }

@@ -64,7 +64,14 @@ fn edges_verdict(bytes: &[u8], vertices: u32, edges: u32, at: usize, anchor: &[u
 }
 
 // Row 12, then row 13.
-pub fn anchor_verdict(bytes: &[u8], vertices: u32, edges: u32, at: usize, goal: u32, anchor: &[u32]) -> Verdict
+pub fn anchor_verdict(
+    bytes: &[u8],
+    vertices: u32,
+    edges: u32,
+    at: usize,
+    goal: u32,
+    anchor: &[u32],
+) -> Verdict
     requires { ⌜ sizes (edgesFrom vertices edges (now bytes) (firstAt at)) ≡ Sizes vertices edges ⌝ }
     requires { ⌜ length (now anchor) ≡ vertices ⌝ }
     requires { ⌜ goal < vertices ⌝ }

@@ -2,9 +2,11 @@
 ghost use mathlib.Core.Path.{_≡_};
 ghost use Rattle.admission.specs.Admission.{Decided};
 ghost use Rattle.admission.specs.Steps.{planVerdict};
+
 mod consistency;
 mod rows;
 pub mod schedule;
+
 use graph::Cursor;
 use graph::Header;
 use graph::PlanRead;

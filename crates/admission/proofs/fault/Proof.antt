@@ -1,3 +1,9 @@
+-- `fault` meets its contract: the plan, then the rows. Assumes nothing.
+use mathlib.Core.Path.{sym, ap, _∙_}
+use Rattle.graph.specs.Steps.{planRefusal}
+use Rattle.graph.proofs.Reading.{check-header, check-rest}
+use Rattle.graph.proofs.Filling.{checked-sizes}
+use Rattle.admission.proofs.Verdicts.{plan-refused}
 use borrow.Author.Needs.{needs}
 use Rattle.admission.proofs.fault.Statement.{statement}
 use Rattle.admission.proofs.fault.Tie as tie
@@ -31,7 +37,10 @@ plan-verdict-requires c κs = search needs
 
 -- src/lib.rt:51:9
 returns : tie.Need-returns
-returns c = ?
+returns c =
+    let f = c .before .header-refusal .ensures in
+    let q = c .before .before .enum-told .given .1 in
+    plan-refused _ _ _ _ _ _ _ _ _ _ _ _ _ (c .plan-verdict .ensures) (check-header _ _ _ _ _ f q (c .before .before .before .before .header .ensures)) (f ∙ ap planRefusal q)
 
 -- src/lib.rt:53:9
 check-edges-requires : tie.Need-check-edges-requires
@@ -50,11 +59,14 @@ plan-verdict-requires-2 c κs = search needs
 
 -- src/lib.rt:55:9
 returns-2 : tie.Need-returns-2
-returns-2 c = ?
+returns-2 c =
+    plan-refused _ _ _ _ _ _ _ _ _ _ _ _ _ (c .plan-verdict2 .ensures)
+    (check-rest _ _ _ _ _ _ (c .before .before .before .check-edges .ensures) (c .before .before .before .before .before .counts .given .1) (c .before .before .before .before .before .before .before .header .ensures)) (c .before .enum-told3 .given .1)
 
 -- src/lib.rt:57:5
 call-verdict-requires : tie.Need-call-verdict-requires
-call-verdict-requires c κs = ?
+call-verdict-requires c κs =
+    (sym (c .before .before .before .before .before .before .header .ensures) ∙ c .before .before .before .before .counts .given .1, checked-sizes _ _ _ _ _ _ (sym (c .before .before .check-edges .ensures) ∙ c .enum-told2 .given .1))
 
 -- src/lib.rt:36:1
 returns-3 : tie.Need-returns-3
