@@ -66,8 +66,7 @@ length-digits (suc (suc k)) n p h =
     ⊎-elim
     (λ q. omega (arith, ap length (digits-last n q)))
     (λ q.
-    omega
-    (
+    omega (
       arith,
       ap length (digits-more n q),
       length-append (digits (n / 10)) (digit (n % 10) ∷ []),
