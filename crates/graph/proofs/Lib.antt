@@ -3,3 +3,4 @@ pub mod Rows
 pub mod OneEdge
 pub mod Plan
 pub mod OneForm
+pub mod Writer
