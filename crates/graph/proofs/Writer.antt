@@ -7,13 +7,13 @@ use mathlib.Core.Path.{_≡_, refl, sym, ap, _∙_, subst}
 use mathlib.Core.Bool.{Bool, true, false, cond, not, _&&_, _||_}
 use mathlib.Core.Logic.{⊎-elim}
 use mathlib.Core.List.{List, [], _∷_, _++_, append-assoc}
-use lib.ListN.{length, drop, getD, set, length-append, drop-of-length-le}
-use lib.Seq.{drop-cons, sets, length-sets}
+use lib.ListN.{length, drop, getD, set, length-append, length-map, drop-of-length-le}
+use lib.Seq.{drop-cons, sets, length-sets, sets-eq}
 use lib.Dec.{ltb, leb, eqb}
-use borrow.Author.Tests.{ltb-false, lt-ltb, le-ltb, le-leb, lt-leb, eq-eqb, ne-eqb}
+use borrow.Author.Tests.{ltb-false, leb-false, lt-ltb, le-ltb, le-leb, lt-leb, eq-eqb, ne-eqb}
 use denote.Enum.Declared.{tagOf}
 use types.Run.{OneOf}
-use Rattle.leb128.specs.Number.{encode, planGroups, writeAnswer, written}
+use Rattle.leb128.specs.Number.{encode, planGroups, writeAnswer as numberAnswer, written}
 use Rattle.leb128.specs.declared.NumberWritten.{NumberWritten}
 use Rattle.leb128.specs.declared.NumberWritten.the-variants.{Next as Wrote, TooLarge, NoRoom}
 use Rattle.leb128.proofs.NumberWritten
@@ -28,10 +28,12 @@ use Rattle.graph.specs.declared.PlanWritten.the-variants.{Count, Rejecte
 use Rattle.graph.specs.Limits.{maxVertices, maxEdges, maxCost}
 use Rattle.graph.specs.Rows.{Row, row, through, vertexCountRows}
 use Rattle.graph.specs.Plan.{past, firstAt}
-use Rattle.graph.specs.Lists.{none, fault, edgesOf, listRows, edgeRows, edgesFault, writeFault, edgeBytes, edgesBytes, bytesOf}
-use Rattle.graph.specs.Writing.{Equal, edgeAt, falls, edgeMeasured, measured, edgesMeasured, LayableEdge, Layable}
+use Rattle.graph.specs.Lists.{over, Fault as Found, none, fault, edgesOf, listRows, edgeRows, edgesFault, writeFault, edgeBytes, edgesBytes, bytesOf, writtenAs, writeAnswer, outAfter}
+use Rattle.graph.specs.Writing.{Equal, edgeAt, falls, edgeMeasured, measured, edgesMeasured, planMeasured, LayableEdge, Layable}
 use Rattle.graph.proofs.Tests.{or-left}
-use Rattle.graph.proofs.Rows.{through-clear}
+use Rattle.graph.proofs.Rows.{Passes, through-clear}
+use Rattle.graph.proofs.Plan.{edge-clear}
+use Rattle.graph.proofs.OneForm.{columns, Takes, takes}
 
 -- ---- row 6
 
@@ -105,9 +107,18 @@ module _ (ts hs cs : List ℕ) where
       let b : i < length cs = omega (arith, q .costs) in
       rw (add-one, drop-cons ts i 0 h, drop-cons hs i 0 a, drop-cons cs i 0 b)
 
+  pub rest-is :
+      (i : ℕ) → Equal ts hs cs → i < length ts → (e : Edge) → e ≡ edgeAt ts hs cs i → rest i ≡ e ∷ rest (i + 1)
+  rest-is i q h e g = rest-next i q h ∙ ap (λ (d : Edge). d ∷ rest (i + 1)) (sym g)
+
   pub rest-end : (i : ℕ) → length ts ≤ i → rest i ≡ []
   unfolding edgesOf
   rest-end i h = rw (drop-of-length-le ts h)
+
+-- as many as each list is long
+pub edges-count : (ts hs cs : List ℕ) → Equal ts hs cs → length (edgesOf ts hs cs) ≡ length ts
+edges-count ts hs cs q =
+    sym (length-map (edgesOf ts hs cs) (λ (e : Edge). e .tail)) ∙ ap length (columns ts hs cs (q .heads) (q .costs) .tails-are)
 
 -- ---- all edges measured
 
@@ -178,24 +189,19 @@ module _ (v : ℕ) (ts hs cs : List ℕ) (start : ℕ) where
     pub measuring-end : length ts ≤ i → Count (c .at) ≡ edgesMeasured v (firstAt start) 0 (edgesOf ts hs cs)
     measuring-end h = measured-end v c i ∙ ap (edgesMeasured v c i) (sym (rest-end ts hs cs i h)) ∙ m .same
 
-    module _ (q : Equal ts hs cs) (h : i < length ts) where
-      pub measuring-refused :
-          (n p : ℕ) → edgeMeasured v c i (edgeAt ts hs cs i) ≡ Fault n p →
-          Rejected n p ≡ edgesMeasured v (firstAt start) 0 (edgesOf ts hs cs)
-      measuring-refused n p e =
-          sym (measured-refused v c i (edgeAt ts hs cs i) (rest ts hs cs (i + 1)) n p e)
-          ∙ ap (edgesMeasured v c i) (sym (rest-next ts hs cs i q h))
-          ∙ m .same
+    module _ (q : Equal ts hs cs) (h : i < length ts) (e : Edge) (g : e ≡ edgeAt ts hs cs i) where
+      whole : edgesMeasured v c i (e ∷ rest ts hs cs (i + 1)) ≡ edgesMeasured v (firstAt start) 0 (edgesOf ts hs cs)
+      whole = ap (edgesMeasured v c i) (sym (rest-is ts hs cs i q h e g)) ∙ m .same
 
-      pub measuring-next :
-          (d : Edge) (c′ : Cursor) → edgeMeasured v c i (edgeAt ts hs cs i) ≡ Next d c′ → Measuring v ts hs cs start c′ (i + 1)
-      measuring-next d c′ e =
+      pub measuring-refused :
+          (n p : ℕ) → edgeMeasured v c i e ≡ Fault n p → Rejected n p ≡ edgesMeasured v (firstAt start) 0 (edgesOf ts hs cs)
+      measuring-refused n p k = sym (measured-refused v c i e (rest ts hs cs (i + 1)) n p k) ∙ whole
+
+      pub measuring-next : (d : Edge) (c′ : Cursor) → edgeMeasured v c i e ≡ Next d c′ → Measuring v ts hs cs start c′ (i + 1)
+      measuring-next d c′ k =
           record {
-            few = omega (arith, m .few, measured-few v c i (edgeAt ts hs cs i) d c′ e);
-            same =
-                sym (measured-next v c i (edgeAt ts hs cs i) (rest ts hs cs (i + 1)) d c′ e)
-                ∙ ap (edgesMeasured v c i) (sym (rest-next ts hs cs i q h))
-                ∙ m .same;
+            few = omega (arith, m .few, measured-few v c i e d c′ k);
+            same = sym (measured-next v c i e (rest ts hs cs (i + 1)) d c′ k) ∙ whole;
           }
 
 -- ---- bytes laid one after another
@@ -223,18 +229,18 @@ not-other NoRoom n e k = let z : _≡_ {A = ℕ} 0 1 = cc in omega arith
 module _ {s : List ℕ} {at : ℕ} {b s′ : List ℕ} {at′ : ℕ} (d : Laid s at b s′ at′) (v : ℕ) (fits : v < 2097152)
     (h : at + length (b ++ encode planGroups v) ≤ length s) where
   laid-room :
-      (Wrote (at′ + length (encode planGroups v)) ≡ writeAnswer planGroups s′ at′ v)
+      (Wrote (at′ + length (encode planGroups v)) ≡ numberAnswer planGroups s′ at′ v)
       × (sets s′ at′ (encode planGroups v) ≡ written planGroups s′ at′ v)
   unfolding planGroups
   laid-room =
       room 3 s′ at′ v (encode 3 v) refl fits
       (omega (arith, ap length (d .memory), length-sets s at b, d .offset, length-append b (encode 3 v)))
 
-  pub laid-never : (r : NumberWritten) → r ≡ writeAnswer planGroups s′ at′ v → OneOf (1 ∷ 2 ∷ []) (tagOf NumberWritten.the-type r) → ⊥
+  pub laid-never : (r : NumberWritten) → r ≡ numberAnswer planGroups s′ at′ v → OneOf (1 ∷ 2 ∷ []) (tagOf NumberWritten.the-type r) → ⊥
   laid-never r e k = not-other r _ (e ∙ sym (laid-room .0)) k
 
   pub laid-number :
-      (r : NumberWritten) (s″ : List ℕ) (n : ℕ) → r ≡ writeAnswer planGroups s′ at′ v → s″ ≡ written planGroups s′ at′ v → r ≡ Wrote n →
+      (r : NumberWritten) (s″ : List ℕ) (n : ℕ) → r ≡ numberAnswer planGroups s′ at′ v → s″ ≡ written planGroups s′ at′ v → r ≡ Wrote n →
       Laid s at (b ++ encode planGroups v) s″ n
   laid-number r s″ n e m k =
       let q : Wrote (at′ + length (encode planGroups v)) ≡ Wrote n = laid-room .0 ∙ sym e ∙ k in
@@ -271,3 +277,226 @@ module _ (s : List ℕ) (at t : ℕ) (e : Edge) (l : LayableEdge t e) (h : at + 
       (n ≡ at + length (edgeBytes t e)) × (s′ ≡ sets s at (edgeBytes t e))
   unfolding edgeBytes
   edge-laid s′ n d = (rw append-assoc at (d .offset), rw append-assoc at (d .memory))
+
+-- ---- all edges laid
+
+-- the loop over the edges: laying the rest from here gives what laying all gives
+pub record Laying (ts hs cs out₀ : List ℕ) (start : ℕ) (out : List ℕ) (at last i : ℕ) : Type 0 where
+  pub layable : Layable last (rest ts hs cs i)
+  pub kept : length out ≡ length out₀
+  pub room : at + length (edgesBytes last (rest ts hs cs i)) ≤ length out₀
+  pub same : sets out at (edgesBytes last (rest ts hs cs i)) ≡ sets out₀ start (edgesBytes 0 (edgesOf ts hs cs))
+
+module _ (ts hs cs out₀ : List ℕ) (start : ℕ) where
+  pub laying-first :
+      Layable 0 (edgesOf ts hs cs) → start + length (edgesBytes 0 (edgesOf ts hs cs)) ≤ length out₀ →
+      Laying ts hs cs out₀ start out₀ start 0 0
+  laying-first l r = record { layable = l; kept = refl; room = r; same = refl }
+
+  module _ (out : List ℕ) (at last i : ℕ) (y : Laying ts hs cs out₀ start out at last i) where
+    pub laying-end : length ts ≤ i → out ≡ sets out₀ start (edgesBytes 0 (edgesOf ts hs cs))
+    unfolding edgesBytes
+    laying-end h = ap (λ (es : List Edge). sets out at (edgesBytes last es)) (sym (rest-end ts hs cs i h)) ∙ y .same
+
+    module _ (q : Equal ts hs cs) (h : i < length ts) (e : Edge) (g : e ≡ edgeAt ts hs cs i) where
+      abbrev others : List ℕ
+      others = edgesBytes (e .tail) (rest ts hs cs (i + 1))
+
+      next-layable : LayableEdge last e × Layable (e .tail) (rest ts hs cs (i + 1))
+      next-layable = subst (Layable last) (rest-is ts hs cs i q h e g) (y .layable)
+
+      pub edge-layable : LayableEdge last e
+      edge-layable = next-layable .0
+
+      next-bytes : edgesBytes last (rest ts hs cs i) ≡ edgeBytes last e ++ others
+      unfolding edgesBytes
+      next-bytes = ap (edgesBytes last) (rest-is ts hs cs i q h e g)
+
+      next-length : at + length (edgeBytes last e) + length others ≤ length out₀
+      next-length = omega (arith, y .room, ap length next-bytes, length-append (edgeBytes last e) others)
+
+      pub edge-room : at + length (edgeBytes last e) ≤ length out
+      edge-room = omega (arith, next-length, y .kept)
+
+      pub laying-next :
+          (out′ : List ℕ) (at′ : ℕ) → at′ ≡ at + length (edgeBytes last e) → out′ ≡ sets out at (edgeBytes last e) →
+          Laying ts hs cs out₀ start out′ at′ (e .tail) (i + 1)
+      laying-next out′ at′ a b =
+          record {
+            layable = next-layable .1;
+            kept = ap length b ∙ length-sets out at (edgeBytes last e) ∙ y .kept;
+            room = omega (arith, next-length);
+            same =
+                ap (λ (l : List ℕ). sets l at′ others) b
+                ∙ ap (λ (k : ℕ). sets (sets out at (edgeBytes last e)) k others) a
+                ∙ sym (sets-append out at (edgeBytes last e) others)
+                ∙ ap (sets out at) (sym next-bytes)
+                ∙ y .same;
+          }
+
+-- ---- V and the lists measured
+
+module _ (v : ℕ) (ts hs cs : List ℕ) where
+  pub none-refused : v ≡ 0 → Rejected 2 0 ≡ planMeasured v ts hs cs
+  unfolding planMeasured measured writeFault vertexCountRows through
+  none-refused h = simp (eq-eqb v 0 h)
+
+  pub many-refused : maxVertices < v → Rejected 2 0 ≡ planMeasured v ts hs cs
+  unfolding planMeasured measured writeFault vertexCountRows through
+  many-refused h = simp (ne-eqb v 0 (λ e. omega arith), lt-ltb maxVertices v h)
+
+  module _ (some : v ≡ 0 → ⊥) (few : v ≤ maxVertices) where
+    pub long-refused : maxEdges < length ts → Rejected 3 0 ≡ planMeasured v ts hs cs
+    unfolding planMeasured measured writeFault vertexCountRows listRows through
+    long-refused h = simp (ne-eqb v 0 some, le-ltb maxVertices v few, lt-ltb maxEdges (length ts) h)
+
+    module _ (short : length ts ≤ maxEdges) where
+      pub heads-refused : (length hs ≡ length ts → ⊥) → Rejected 3 0 ≡ planMeasured v ts hs cs
+      unfolding planMeasured measured writeFault vertexCountRows listRows through
+      heads-refused h =
+          simp (ne-eqb v 0 some, le-ltb maxVertices v few, le-ltb maxEdges (length ts) short, ne-eqb (length hs) (length ts) h)
+
+      pub costs-refused : length hs ≡ length ts → (length cs ≡ length ts → ⊥) → Rejected 3 0 ≡ planMeasured v ts hs cs
+      unfolding planMeasured measured writeFault vertexCountRows listRows through
+      costs-refused e h =
+          simp (
+            ne-eqb v 0 some,
+            le-ltb maxVertices v few,
+            le-ltb maxEdges (length ts) short,
+            eq-eqb (length hs) (length ts) e,
+            ne-eqb (length cs) (length ts) h,
+          )
+
+      pub all-measured :
+          (start : ℕ) → Equal ts hs cs → start ≡ length (encode planGroups v) + length (encode planGroups (length ts)) →
+          edgesMeasured v (firstAt start) 0 (edgesOf ts hs cs) ≡ planMeasured v ts hs cs
+      unfolding planMeasured edgesMeasured writeFault vertexCountRows listRows through bytesOf
+      all-measured start q e =
+          let n : start + length (edgesBytes 0 (edgesOf ts hs cs)) ≡ length (bytesOf v (edgesOf ts hs cs))
+          = omega (
+            arith,
+            ap (λ (k : ℕ). length (encode planGroups k)) (edges-count ts hs cs q),
+            length-append (encode planGroups v) (encode planGroups (length (edgesOf ts hs cs)) ++ edgesBytes 0 (edgesOf ts hs cs)),
+            length-append (encode planGroups (length (edgesOf ts hs cs))) (edgesBytes 0 (edgesOf ts hs cs)),
+          ) in
+          simp (
+            ne-eqb v 0 some,
+            le-ltb maxVertices v few,
+            le-ltb maxEdges (length ts) short,
+            eq-eqb (length hs) (length ts) (q .heads),
+            eq-eqb (length cs) (length ts) (q .costs),
+            n,
+          )
+
+-- ---- the whole plan laid
+
+module _ (v t l : ℕ) (e : Edge) (few : v ≤ maxVertices) (p : Passes (edgeRows v t l e)) where
+  passed-layable : LayableEdge t e
+  unfolding edgeRows
+  passed-layable =
+      record {
+        rises = ltb-false (e .tail) t (or-left (ltb (e .tail) t) _ (p .1 .1 .0));
+        tail = omega (arith, leb-false v (e .tail) (p .0));
+        head = omega (arith, leb-false v (e .head) (p .1 .0));
+        cost = omega (arith, ltb-false maxCost (e .cost) (p .1 .1 .1 .0));
+      }
+
+pub passed-edges : (v : ℕ) → v ≤ maxVertices → (es : List Edge) (t l i : ℕ) → edgesFault v t l i es ≡ none → Layable t es
+passed-edges v few [] t l i h = tt
+passed-edges v few (e ∷ es) t l i h =
+    let q = edge-clear v t l i e es h in
+    (passed-layable v t l e few (q .0), passed-edges v few es (e .tail) (e .head + 1) (suc i) (q .1))
+
+-- what is laid at the front lies over what was there
+pub sets-over : (bytes out : List ℕ) → length bytes ≤ length out → sets out 0 bytes ≡ over bytes out
+unfolding over
+sets-over bytes out h =
+    let n : 0 + length bytes ≡ length bytes = omega arith in
+    sets-eq bytes out 0 (omega arith) ∙ ap (λ (k : ℕ). bytes ++ drop k out) n
+
+module _ (v : ℕ) (ts hs cs out : List ℕ) (f : writeFault v ts hs cs ≡ none) (h : length (bytesOf v (edgesOf ts hs cs)) ≤ length out) where
+  abbrev es : List Edge
+  es = edgesOf ts hs cs
+
+  abbrev headerBytes : List ℕ
+  headerBytes = encode planGroups v ++ encode planGroups (length ts)
+
+  pub taken : Takes v ts hs cs
+  taken = takes v ts hs cs f
+
+  pub lists-equal : Equal ts hs cs
+  lists-equal = record { heads = taken .heads-equal; costs = taken .costs-equal }
+
+  pub all-layable : Layable 0 es
+  all-layable = passed-edges v (taken .vertices) es 0 0 0 (taken .passes)
+
+  pub plan-bytes : bytesOf v es ≡ headerBytes ++ edgesBytes 0 es
+  unfolding bytesOf
+  plan-bytes =
+      ap (λ (n : ℕ). encode planGroups v ++ (encode planGroups n ++ edgesBytes 0 es)) (edges-count ts hs cs lists-equal)
+      ∙ sym (append-assoc (encode planGroups v) (encode planGroups (length ts)) (edgesBytes 0 es))
+
+  plan-length : length headerBytes + length (edgesBytes 0 es) ≤ length out
+  plan-length = omega (arith, ap length plan-bytes, length-append headerBytes (edgesBytes 0 es))
+
+  pub vertices-fit : (v < 2097152) × (0 + length (encode planGroups v) ≤ length out)
+  vertices-fit = (
+    omega (arith, taken .vertices),
+    omega (arith, plan-length, length-append (encode planGroups v) (encode planGroups (length ts))),
+  )
+
+  pub count-fits : (length ts < 2097152) × (0 + length headerBytes ≤ length out)
+  count-fits = (omega (arith, taken .edges), omega (arith, plan-length))
+
+  module _ (s : List ℕ) (at : ℕ) (d : Laid out 0 headerBytes s at) where
+    pub edges-room : at + length (edgesBytes 0 es) ≤ length s
+    edges-room = omega (arith, plan-length, d .offset, ap length (d .memory), length-sets out 0 headerBytes)
+
+    pub plan-laid : (s′ : List ℕ) → s′ ≡ sets s at (edgesBytes 0 es) → s′ ≡ over (bytesOf v es) out
+    plan-laid s′ e =
+        e ∙ ap (λ (l : List ℕ). sets l at (edgesBytes 0 es)) (d .memory)
+        ∙ ap (λ (k : ℕ). sets (sets out 0 headerBytes) k (edgesBytes 0 es)) (d .offset)
+        ∙ sym (sets-append out 0 headerBytes (edgesBytes 0 es))
+        ∙ ap (sets out 0) (sym plan-bytes)
+        ∙ sets-over (bytesOf v es) out h
+
+-- ---- the answer, and the output after it
+
+module _ (v : ℕ) (ts hs cs out : List ℕ) where
+  measured-none : (f : Found) (n size : ℕ) → measured f n ≡ Count size → (f ≡ none) × (n ≡ size)
+  unfolding measured
+  measured-none none n size e = (refl, cc)
+  measured-none (fault k p) n size e = absurd (let z : _≡_ {A = ℕ} 0 1 = cc in omega arith)
+
+  measured-fault : (f : Found) (bytes : List ℕ) (n p : ℕ) → measured f (length bytes) ≡ Rejected n p → writtenAs f bytes out ≡ Rejected n p
+  unfolding measured writtenAs
+  measured-fault none bytes n p e = absurd (let z : _≡_ {A = ℕ} 0 1 = cc in omega arith)
+  measured-fault (fault k q) bytes n p e = e
+
+  abbrev Answers : PlanWritten → List ℕ → Type 0
+  Answers r out′ = (r ≡ writeAnswer v ts hs cs out) × (out′ ≡ outAfter v ts hs cs out r)
+
+  pub answers-fault : (r : PlanWritten) (n p : ℕ) → r ≡ planMeasured v ts hs cs → r ≡ Rejected n p → Answers r out
+  unfolding planMeasured writeAnswer outAfter
+  answers-fault r n p e k = (
+    k ∙ sym (measured-fault (writeFault v ts hs cs) (bytesOf v (edgesOf ts hs cs)) n p (sym e ∙ k)),
+    sym (ap (outAfter v ts hs cs out) k),
+  )
+
+  module _ (r : PlanWritten) (size : ℕ) (e : r ≡ planMeasured v ts hs cs) (k : r ≡ Count size) where
+    pub no-fault : writeFault v ts hs cs ≡ none
+    unfolding planMeasured
+    no-fault = measured-none (writeFault v ts hs cs) (length (bytesOf v (edgesOf ts hs cs))) size (sym e ∙ k) .0
+
+    pub size-is : length (bytesOf v (edgesOf ts hs cs)) ≡ size
+    unfolding planMeasured
+    size-is = measured-none (writeFault v ts hs cs) (length (bytesOf v (edgesOf ts hs cs))) size (sym e ∙ k) .1
+
+    pub answers-short : length out < size → Answers (Rejected 11 0) out
+    unfolding writeAnswer writtenAs outAfter
+    answers-short h = (rw (no-fault, size-is) (simp (lt-leb size (length out) h)), refl)
+
+    pub answers-count :
+        size ≤ length out → (out′ : List ℕ) → out′ ≡ over (bytesOf v (edgesOf ts hs cs)) out → Answers (Count size) out′
+    unfolding writeAnswer writtenAs outAfter
+    answers-count h out′ m = (rw (no-fault, size-is) (simp (le-leb size (length out) h)), m)

@@ -1,4 +1,5 @@
 // Graphs (document 01's plans) as plan bytes and as lists of edges.
+pub mod write;
 
 // The limits of a plan: vertices (places), edges (lanes), and the dearest edge.
 pub const MAX_VERTICES: u32 = 4096;
