@@ -17,7 +17,7 @@ use Rattle.leb128.specs.Number.{encode, planGroups, writeAnswer as numberAnswer
 use Rattle.leb128.specs.declared.NumberWritten.{NumberWritten}
 use Rattle.leb128.specs.declared.NumberWritten.the-variants.{Next as Wrote, TooLarge, NoRoom}
 use Rattle.leb128.proofs.NumberWritten
-use Rattle.leb128.proofs.Laws.{encode-few}
+use Rattle.leb128.proofs.Laws.{split, encode-few}
 use Rattle.leb128.proofs.Write.{room}
 use Rattle.graph.specs.declared.Edge.{Edge}
 use Rattle.graph.specs.declared.Cursor.{Cursor}
@@ -37,18 +37,39 @@ use Rattle.graph.proofs.OneForm.{columns, Takes, takes}
 
 -- ---- row 6
 
-or-none : (b : Bool) → b ≡ b || false
-or-none true = refl
-or-none false = refl
+-- two pairs in order, compared as one number
+module _ (t h u l : ℕ) (p : h < 4294967296) (q : l < 4294967296) where
+  abbrev together : Bool
+  together = ltb (4294967296 * t + h) (4294967296 * u + l)
+
+  abbrev apart : Bool
+  apart = ltb t u || (eqb t u && ltb h l)
+
+  order-below : t < u → together ≡ apart
+  order-below d = rw (lt-ltb t u d) (lt-ltb (4294967296 * t + h) (4294967296 * u + l) (omega arith))
+
+  order-above : u < t → together ≡ apart
+  order-above d =
+      rw (le-ltb t u (omega arith), ne-eqb t u (λ e. omega arith)) (le-ltb (4294967296 * t + h) (4294967296 * u + l) (omega arith))
+
+  order-same : t ≡ u → together ≡ apart
+  order-same d =
+      rw (le-ltb t u (omega arith), eq-eqb t u d)
+      (⊎-elim
+      (λ (k : h < l). lt-ltb (4294967296 * t + h) (4294967296 * u + l) (omega arith) ∙ sym (lt-ltb h l k))
+      (λ (k : l ≤ h). le-ltb (4294967296 * t + h) (4294967296 * u + l) (omega arith) ∙ sym (le-ltb h l k))
+      (split h l))
+
+  pub order-as-one : together ≡ apart
+  order-as-one =
+      ⊎-elim order-below (λ (d : u ≤ t). ⊎-elim order-above (λ (g : t ≤ u). order-same (omega arith)) (split u t)) (split t u)
 
 module _ (c : Cursor) (e : Edge) where
-  pub falls-same : e .tail ≡ c .tail → ltb (e .head) (c .least) ≡ falls c e
+  pub falls-as-one :
+      e .head < 4294967296 → c .least < 4294967296 →
+      ltb (4294967296 * e .tail + e .head) (4294967296 * c .tail + c .least) ≡ falls c e
   unfolding falls
-  falls-same h = simp (le-ltb (e .tail) (c .tail) (omega arith), eq-eqb (e .tail) (c .tail) h)
-
-  pub falls-other : (e .tail ≡ c .tail → ⊥) → ltb (e .tail) (c .tail) ≡ falls c e
-  unfolding falls
-  falls-other h = rw (ne-eqb (e .tail) (c .tail) h) (or-none (ltb (e .tail) (c .tail)))
+  falls-as-one = order-as-one (e .tail) (e .head) (c .tail) (c .least)
 
   pub not-falling : falls c e ≡ false → c .tail ≤ e .tail
   unfolding falls

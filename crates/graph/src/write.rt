@@ -27,15 +27,13 @@ fn edge_at(tails: &[u32], heads: &[u32], costs: &[u32], i: usize) -> Edge
     Edge { tail, head, cost }
 }
 
-// Does an edge fall behind the one before it: by its tail, or by its head under the same tail?
+// Does an edge fall behind the one before it: by its tail, or under the same tail by its head? Compared as one number.
 fn falls_behind(cursor: Cursor, edge: Edge) -> bool
     ensures { λ r. ⌜ r ≡ falls cursor edge ⌝ }
 {
-    if edge.tail == cursor.tail {
-        edge.head < cursor.least
-    } else {
-        edge.tail < cursor.tail
-    }
+    let found = 4294967296 * (edge.tail as u64) + (edge.head as u64);
+    let least = 4294967296 * (cursor.tail as u64) + (cursor.least as u64);
+    found < least
 }
 
 // The edge number i through its rows, and the cursor past its bytes.
