@@ -7,3 +7,4 @@ pub mod Filling
 pub mod Plan
 pub mod Within
 pub mod OneForm
+pub mod Writer

@@ -1,0 +1,58 @@
+-- What the writer's private functions give: for their contracts alone, nothing that a reader must believe.
+use Prim.Native.Nat.{ℕ, _+_, _≤_, _<_}
+use mathlib.Core.Path.{_≡_}
+use mathlib.Core.Bool.{Bool, _&&_, _||_}
+use mathlib.Core.List.{List, [], _∷_}
+use lib.ListN.{length, getD}
+use lib.Dec.{ltb, eqb}
+use Rattle.graph.specs.declared.Edge.{Edge}
+use Rattle.graph.specs.declared.Cursor.{Cursor}
+use Rattle.graph.specs.declared.EdgeRead.{EdgeRead}
+use Rattle.graph.specs.declared.EdgeRead.the-variants.{Next, Fault}
+use Rattle.graph.specs.declared.PlanWritten.{PlanWritten}
+use Rattle.graph.specs.declared.PlanWritten.the-variants.{Count, Rejected}
+use Rattle.graph.specs.Rows.{through}
+use Rattle.graph.specs.Plan.{past}
+use Rattle.graph.specs.Lists.{Fault as Found, none, fault, edgesOf, edgeRows, edgesFault, writeFault, edgeBytes, edgesBytes, bytesOf}
+
+-- three equal lists
+pub record Equal (ts hs cs : List ℕ) : Type 0 where
+  pub heads : length hs ≡ length ts
+  pub costs : length cs ≡ length ts
+
+-- the edge number i of three lists
+abbrev pub edgeAt : List ℕ → List ℕ → List ℕ → ℕ → Edge
+edgeAt ts hs cs i = record { tail = getD ts i 0; head = getD hs i 0; cost = getD cs i 0 }
+
+-- row 6 of an edge after a cursor
+unfoldable pub falls : Cursor → Edge → Bool
+falls c e = ltb (e .tail) (c .tail) || (eqb (e .tail) (c .tail) && ltb (e .head) (c .least))
+
+-- the edge number i through its rows, and the cursor past its bytes
+unfoldable pub edgeMeasured : ℕ → Cursor → ℕ → Edge → EdgeRead
+edgeMeasured v c i e =
+    through (edgeRows v (c .tail) (c .least) e) (λ n. Fault n i) (Next e (past e (c .at + length (edgeBytes (c .tail) e))))
+
+-- a refusal, or else the count of bytes
+unfoldable pub measured : Found → ℕ → PlanWritten
+measured (fault n p) count = Rejected n p
+measured none count = Count count
+
+-- the edges from number i on through their rows, and the count of bytes, where the cursor stands before them
+unfoldable pub edgesMeasured : ℕ → Cursor → ℕ → List Edge → PlanWritten
+edgesMeasured v c i es = measured (edgesFault v (c .tail) (c .least) i es) (c .at + length (edgesBytes (c .tail) es))
+
+-- V, the lists and all edges through their rows, and the count of bytes
+unfoldable pub planMeasured : ℕ → List ℕ → List ℕ → List ℕ → PlanWritten
+planMeasured v ts hs cs = measured (writeFault v ts hs cs) (length (bytesOf v (edgesOf ts hs cs)))
+
+-- an edge that may be laid after one with this tail: its tail does not fall, and each of its numbers has a form
+pub record LayableEdge (last : ℕ) (e : Edge) : Type 0 where
+  pub rises : last ≤ e .tail
+  pub tail : e .tail < 2097152
+  pub head : e .head < 2097152
+  pub cost : e .cost < 2097152
+
+abbrev pub Layable : ℕ → List Edge → Type 0
+Layable last [] = Unit {0}
+Layable last (e ∷ es) = LayableEdge last e × Layable (e .tail) es
