@@ -4,20 +4,16 @@ use Prim.Native.Nat.{ℕ, zero, suc, _+_, _*_, _/_, _%_, _^_, _<_, _≤_}
 use native.Mathlib.Nat.{pow-suc}
 use native.Mathlib.Omega.{arith}
 use mathlib.Core.Path.{_≡_, refl, sym, ap, _∙_, subst}
-use mathlib.Core.Logic.{_⊎_, inl, inr, ⊎-elim}
 use mathlib.Core.List.{List, [], _∷_, _++_}
 use mathlib.Core.Bool.{Bool, true, false}
 use lib.ListN.{length, length-append}
 use lib.Dec.{ltb}
-use borrow.Author.Tests.{ltb-true, ltb-false, lt-ltb, le-ltb}
+use borrow.Author.Tests.{lt-ltb, le-ltb}
+use native.Mathlib.Decide.{decLe}
+use native.Mathlib.Nat.{lt-of-not-le}
+use Rattle.text.specs.Laid.{Put, Counted}
 use Rattle.text.specs.Text.{digit, digitsIn, digits}
-
-split-by : (a b : ℕ) (t : Bool) → ltb a b ≡ t → (a < b) ⊎ (b ≤ a)
-split-by a b true e = inl (ltb-true a b e)
-split-by a b false e = inr (ltb-false a b e)
-
-split : (a b : ℕ) → (a < b) ⊎ (b ≤ a)
-split a b = split-by a b (ltb a b) refl
+use Rattle.text.proofs.Laid.{first-counted, then-counted, then-put}
 
 -- ---- in at most k digits
 
@@ -38,13 +34,13 @@ in-enough : (j k n : ℕ) → n < j → n < k → digitsIn j n ≡ digitsIn k n
 in-enough zero k n p q = absurd (omega arith)
 in-enough (suc j) zero n p q = absurd (omega arith)
 in-enough (suc j) (suc k) n p q =
-    ⊎-elim
-    (λ h. in-last j n h ∙ sym (in-last k n h))
-    (λ h.
-    in-more j n h
-    ∙ ap (λ (l : List ℕ). l ++ (digit (n % 10) ∷ [])) (in-enough j k (n / 10) (omega arith) (omega arith))
-    ∙ sym (in-more k n h))
-    (split n 10)
+    elim (decLe 10 n)
+    [ yes h ↦
+        in-more j n h
+        ∙ ap (λ (l : List ℕ). l ++ (digit (n % 10) ∷ [])) (in-enough j k (n / 10) (omega arith) (omega arith))
+        ∙ sym (in-more k n h)
+    | no h ↦ in-last j n (lt-of-not-le h) ∙ sym (in-last k n (lt-of-not-le h))
+    ]
 
 -- ---- all of them
 
@@ -63,14 +59,37 @@ pub length-digits : (k n : ℕ) → 1 ≤ k → n < 10 ^ k → length (digits n)
 length-digits zero n p h = absurd (omega arith)
 length-digits (suc zero) n p h = omega (arith, ap length (digits-last n h))
 length-digits (suc (suc k)) n p h =
-    ⊎-elim
-    (λ q. omega (arith, ap length (digits-last n q)))
-    (λ q.
-    omega
-    (
-      arith,
-      ap length (digits-more n q),
-      length-append (digits (n / 10)) (digit (n % 10) ∷ []),
-      length-digits (suc k) (n / 10) (omega arith) (omega (arith, pow-suc 10 (suc k))),
-    ))
-    (split n 10)
+    elim (decLe 10 n)
+    [ yes q ↦
+        omega
+        (
+          arith,
+          ap length (digits-more n q),
+          length-append (digits (n / 10)) (digit (n % 10) ∷ []),
+          length-digits (suc k) (n / 10) (omega arith) (omega (arith, pow-suc 10 (suc k))),
+        )
+    | no q ↦ omega (arith, ap length (digits-last n (lt-of-not-le q)))
+    ]
+
+-- ---- a number put: its last digit, after those before it if there are any
+
+digits-one : (n : ℕ) → n < 10 → digits n ≡ digit (n % 10) ∷ []
+digits-one n h = digits-last n h ∙ ap (λ (d : ℕ). digit d ∷ []) (omega arith)
+
+module _ (at n : ℕ) (h : n < 10) where
+  pub one-counted : Counted at (digits n) → Counted at (digit (n % 10) ∷ [])
+  one-counted p = rw (digits-one n h) at p
+
+  pub one-put : {old : List ℕ} {end : ℕ} {new : List ℕ} → Put at (digit (n % 10) ∷ []) old end new → Put at (digits n) old end new
+  one-put p = rw (digits-one n h) p
+
+module _ (at n : ℕ) (h : 10 ≤ n) where
+  pub front-counted : Counted at (digits n) → Counted at (digits (n / 10))
+  front-counted p = first-counted at (digits (n / 10)) (digit (n % 10) ∷ []) (rw (digits-more n h) at p)
+
+  module _ (old : List ℕ) (m : ℕ) (mid : List ℕ) (front : Put at (digits (n / 10)) old m mid) where
+    pub last-counted : Counted at (digits n) → Counted m (digit (n % 10) ∷ [])
+    last-counted p = then-counted at (digits (n / 10)) (digit (n % 10) ∷ []) old m mid front (rw (digits-more n h) at p)
+
+    pub last-put : (end : ℕ) (new : List ℕ) → Put m (digit (n % 10) ∷ []) mid end new → Put at (digits n) old end new
+    last-put end new p = rw (digits-more n h) (then-put at (digits (n / 10)) (digit (n % 10) ∷ []) old m mid front end new p)

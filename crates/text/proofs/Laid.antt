@@ -55,21 +55,16 @@ put-nil at old = record { next = omega arith; memory = sym (laid-nil at old) }
 pub put-length : {at : ℕ} {text old : List ℕ} {end : ℕ} {new : List ℕ} → Put at text old end new → length new ≡ length old
 put-length {at} {text} {old} p = ap length (p .memory) ∙ length-laid at text old
 
-module _ (at : ℕ) (a b old : List ℕ) where
-  -- the first of two ends before the second does
-  pub first-counted : Counted at (a ++ b) → Counted at a
-  first-counted h = omega (arith, length-append a b)
+-- the first of two ends before the second does
+pub first-counted : (at : ℕ) (a b : List ℕ) → Counted at (a ++ b) → Counted at a
+first-counted at a b h = omega (arith, length-append a b)
 
-  module _ (m : ℕ) (mid : List ℕ) (first : Put at a old m mid) where
-    pub then-counted : Counted at (a ++ b) → Counted m b
-    then-counted h = omega (arith, length-append a b)
+module _ (at : ℕ) (a b old : List ℕ) (m : ℕ) (mid : List ℕ) (first : Put at a old m mid) where
+  pub then-counted : Counted at (a ++ b) → Counted m b
+  then-counted h = omega (arith, length-append a b)
 
-    pub then-put : (end : ℕ) (new : List ℕ) → Put m b mid end new → Put at (a ++ b) old end new
-    then-put end new second =
-        record {
-          next = omega (arith, length-append a b);
-          memory = cc (laid-append at a b old);
-        }
+  pub then-put : (end : ℕ) (new : List ℕ) → Put m b mid end new → Put at (a ++ b) old end new
+  then-put end new second = record { next = omega (arith, length-append a b); memory = cc (laid-append at a b old) }
 
 -- ---- a text put element by element
 
