@@ -34,12 +34,12 @@ in-enough : (j k n : ℕ) → n < j → n < k → digitsIn j n ≡ digitsIn k n
 in-enough zero k n p q = absurd (omega arith)
 in-enough (suc j) zero n p q = absurd (omega arith)
 in-enough (suc j) (suc k) n p q =
-    elim (decLe 10 n)
-    [ yes h ↦
-        in-more j n h
-        ∙ ap (λ (l : List ℕ). l ++ (digit (n % 10) ∷ [])) (in-enough j k (n / 10) (omega arith) (omega arith))
-        ∙ sym (in-more k n h)
-    | no h ↦ in-last j n (lt-of-not-le h) ∙ sym (in-last k n (lt-of-not-le h))
+    elim (decLe 10 n) [
+      | yes h ↦
+          in-more j n h
+          ∙ ap (λ (l : List ℕ). l ++ (digit (n % 10) ∷ [])) (in-enough j k (n / 10) (omega arith) (omega arith))
+          ∙ sym (in-more k n h)
+      | no h ↦ in-last j n (lt-of-not-le h) ∙ sym (in-last k n (lt-of-not-le h))
     ]
 
 -- ---- all of them
@@ -59,16 +59,15 @@ pub length-digits : (k n : ℕ) → 1 ≤ k → n < 10 ^ k → length (digits n)
 length-digits zero n p h = absurd (omega arith)
 length-digits (suc zero) n p h = omega (arith, ap length (digits-last n h))
 length-digits (suc (suc k)) n p h =
-    elim (decLe 10 n)
-    [ yes q ↦
-        omega
-        (
-          arith,
-          ap length (digits-more n q),
-          length-append (digits (n / 10)) (digit (n % 10) ∷ []),
-          length-digits (suc k) (n / 10) (omega arith) (omega (arith, pow-suc 10 (suc k))),
-        )
-    | no q ↦ omega (arith, ap length (digits-last n (lt-of-not-le q)))
+    elim (decLe 10 n) [
+      | yes q ↦
+          omega (
+            arith,
+            ap length (digits-more n q),
+            length-append (digits (n / 10)) (digit (n % 10) ∷ []),
+            length-digits (suc k) (n / 10) (omega arith) (omega (arith, pow-suc 10 (suc k))),
+          )
+      | no q ↦ omega (arith, ap length (digits-last n (lt-of-not-le q)))
     ]
 
 -- ---- a number put: its last digit, after those before it if there are any
@@ -76,20 +75,24 @@ length-digits (suc (suc k)) n p h =
 digits-one : (n : ℕ) → n < 10 → digits n ≡ digit (n % 10) ∷ []
 digits-one n h = digits-last n h ∙ ap (λ (d : ℕ). digit d ∷ []) (omega arith)
 
-module _ (at n : ℕ) (h : n < 10) where
-  pub one-counted : Counted at (digits n) → Counted at (digit (n % 10) ∷ [])
-  one-counted p = rw (digits-one n h) at p
+module _ {at n : ℕ} {old : List ℕ} {end : ℕ} {new : List ℕ} where
+  pub one-put : n < 10 → Put at (digit (n % 10) ∷ []) old end new → Put at (digits n) old end new
+  one-put h p = rw (digits-one n h) p
 
-  pub one-put : {old : List ℕ} {end : ℕ} {new : List ℕ} → Put at (digit (n % 10) ∷ []) old end new → Put at (digits n) old end new
-  one-put p = rw (digits-one n h) p
+  pub last-put :
+      {m : ℕ} {mid : List ℕ} → 10 ≤ n → Put at (digits (n / 10)) old m mid → Put m (digit (n % 10) ∷ []) mid end new →
+      Put at (digits n) old end new
+  last-put h front last = rw (digits-more n h) (then-put front last)
+
+-- each ends where the number does, or before
+
+pub one-counted : (at n : ℕ) → n < 10 → Counted at (digits n) → Counted at (digit (n % 10) ∷ [])
+one-counted at n h p = rw (digits-one n h) at p
 
 module _ (at n : ℕ) (h : 10 ≤ n) where
   pub front-counted : Counted at (digits n) → Counted at (digits (n / 10))
   front-counted p = first-counted at (digits (n / 10)) (digit (n % 10) ∷ []) (rw (digits-more n h) at p)
 
-  module _ (old : List ℕ) (m : ℕ) (mid : List ℕ) (front : Put at (digits (n / 10)) old m mid) where
-    pub last-counted : Counted at (digits n) → Counted m (digit (n % 10) ∷ [])
-    last-counted p = then-counted at (digits (n / 10)) (digit (n % 10) ∷ []) old m mid front (rw (digits-more n h) at p)
-
-    pub last-put : (end : ℕ) (new : List ℕ) → Put m (digit (n % 10) ∷ []) mid end new → Put at (digits n) old end new
-    last-put end new p = rw (digits-more n h) (then-put at (digits (n / 10)) (digit (n % 10) ∷ []) old m mid front end new p)
+  pub last-counted :
+      {old : List ℕ} {m : ℕ} {mid : List ℕ} → Put at (digits (n / 10)) old m mid → Counted at (digits n) → Counted m (digit (n % 10) ∷ [])
+  last-counted front p = then-counted (digit (n % 10) ∷ []) front (rw (digits-more n h) at p)

@@ -59,22 +59,26 @@ put-length {at} {text} {old} p = ap length (p .memory) ∙ length-laid at text o
 pub first-counted : (at : ℕ) (a b : List ℕ) → Counted at (a ++ b) → Counted at a
 first-counted at a b h = omega (arith, length-append a b)
 
-module _ (at : ℕ) (a b old : List ℕ) (m : ℕ) (mid : List ℕ) (first : Put at a old m mid) where
-  pub then-counted : Counted at (a ++ b) → Counted m b
-  then-counted h = omega (arith, length-append a b)
+-- and the second ends where both do
+pub then-counted :
+    {at : ℕ} {a old : List ℕ} {m : ℕ} {mid : List ℕ} (b : List ℕ) → Put at a old m mid → Counted at (a ++ b) → Counted m b
+then-counted {a = a} b first h = omega (arith, length-append a b)
 
-  pub then-put : (end : ℕ) (new : List ℕ) → Put m b mid end new → Put at (a ++ b) old end new
-  then-put end new second = record { next = omega (arith, length-append a b); memory = cc (laid-append at a b old) }
+pub then-put :
+    {at : ℕ} {a b old : List ℕ} {m : ℕ} {mid : List ℕ} {end : ℕ} {new : List ℕ} → Put at a old m mid → Put m b mid end new →
+    Put at (a ++ b) old end new
+then-put {at} {a} {b} {old} first second =
+    record { next = omega (arith, length-append a b); memory = cc (laid-append at a b old) }
 
 -- ---- a text put element by element
 
-module _ (at i : ℕ) (text old : List ℕ) (m : ℕ) (mid : List ℕ) (first : Put at (take i text) old m mid) where
-  -- one more
-  pub next-put :
-      (end : ℕ) (new : List ℕ) → i < length text → Put m (getD text i 0 ∷ []) mid end new → Put at (take (i + 1) text) old end new
-  next-put end new h second =
-      rw (add-one i, take-suc text i 0 h) (then-put at (take i text) (getD text i 0 ∷ []) old m mid first end new second)
+-- one more
+pub next-put :
+    {at : ℕ} (i : ℕ) (text : List ℕ) {old : List ℕ} {m : ℕ} {mid : List ℕ} {end : ℕ} {new : List ℕ} → i < length text → Put at (take i text) old m mid →
+    Put m (getD text i 0 ∷ []) mid end new → Put at (take (i + 1) text) old end new
+next-put i text h first second = rw (add-one i, take-suc text i 0 h) (then-put first second)
 
-  -- all
-  pub all-put : length text ≤ i → Put at text old m mid
-  all-put h = rw (take-all i text h) at first
+-- all
+pub all-put :
+    {at : ℕ} (i : ℕ) {text old : List ℕ} {end : ℕ} {new : List ℕ} → length text ≤ i → Put at (take i text) old end new → Put at text old end new
+all-put i {text} h p = rw (take-all i text h) at p

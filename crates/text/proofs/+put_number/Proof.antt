@@ -70,8 +70,7 @@ put-number-returns : (t : ℕ) → put-number-lts.Need-returns (
   put-number.Post,
 ) (put-number-at t) put-number.Post
 put-number-returns t c =
-    let a = c .before .before .before .before .before .before .args in
-    one-put (a .at) (a .value) (c .before .before .before .before .if1 .taken) (c .before .before .put-byte .ensures)
+    one-put (c .before .before .before .before .if1 .taken) (c .before .before .put-byte .ensures)
 
 -- src/lib.rt:42:9
 put-number-put-number-requires : (t : ℕ) → put-number-lts.Need-put-number-requires (
@@ -93,8 +92,7 @@ put-number-put-byte-requires-2 : (t : ℕ) → put-number-lts.Need-put-byte-requ
 ) (put-number-at t) put-number.Post
 put-number-put-byte-requires-2 t c κs =
     let s = c .before .before .before .before .before .before .before in
-    let p = c .before .before .before .put-number in
-    last-counted (s .args .at) (s .args .value) (c .before .before .before .before .before .if1 .left) (s .args .out .now) (p .result) (p .last .0) (p .ensures) (s .pre .1)
+    last-counted (s .args .at) (s .args .value) (c .before .before .before .before .before .if1 .left) (c .before .before .before .put-number .ensures) (s .pre .1)
 
 -- src/lib.rt:34:1
 put-number-returns-2 : (t : ℕ) → put-number-lts.Need-returns-2 (
@@ -104,10 +102,10 @@ put-number-returns-2 : (t : ℕ) → put-number-lts.Need-returns-2 (
   put-number.Post,
 ) (put-number-at t) put-number.Post
 put-number-returns-2 t c =
-    let s = c .before .before .before .before .before .before .before .before .before .before in
-    let p = c .before .before .before .before .before .before .put-number in
-    let b = c .before .before .put-byte2 in
-    last-put (s .args .at) (s .args .value) (c .before .before .before .before .before .before .before .before .if1 .left) (s .args .out .now) (p .result) (p .last .0) (p .ensures) (b .result) (b .last .0) (b .ensures)
+    last-put
+    (c .before .before .before .before .before .before .before .before .if1 .left)
+    (c .before .before .before .before .before .before .put-number .ensures)
+    (c .before .before .put-byte2 .ensures)
 
 -- src/lib.rt:34:1
 put-number-same-length-2 : (t : ℕ) → put-number-lts.Need-same-length-2 (

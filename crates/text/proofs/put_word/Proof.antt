@@ -46,9 +46,7 @@ loop-again : tie.Need-loop-again Inv-loop μ-loop
 loop-again c =
     let l = c .before .before .before .before .before .before .loop in
     let a = c .before .before .before .before .before .before .before .before .before .args in
-    let p = c .before .before .put-byte in
-    let h = c .before .before .before .before .before .loop-test .taken in
-    (next-put (a .at) (l .i) (a .word .now) (a .out .now) (l .next) (l .out) (l .inv .0) (p .result) (p .last .0) h (p .ensures), search needs)
+    (next-put (l .i) (a .word .now) (c .before .before .before .before .before .loop-test .taken) (l .inv .0) (c .before .before .put-byte .ensures), search needs)
 
 -- src/lib.rt:20:1
 same-length : tie.Need-same-length Inv-loop μ-loop
@@ -56,10 +54,7 @@ same-length c = put-length (c .before .loop .inv .0)
 
 -- src/lib.rt:20:1
 returns : tie.Need-returns Inv-loop μ-loop
-returns c =
-    let l = c .before .loop in
-    let a = c .before .before .before .before .args in
-    all-put (a .at) (l .i) (a .word .now) (a .out .now) (l .next) (l .out) (l .inv .0) (c .loop-test .left)
+returns c = all-put (c .before .loop .i) (c .loop-test .left) (c .before .loop .inv .0)
 
 pub put-word-spec : {M : Type 1} → statement M
 put-word-spec =
