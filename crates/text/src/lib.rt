@@ -3,7 +3,7 @@ ghost use mathlib.Core.Path.{_≡_};
 ghost use mathlib.Core.List.{_∷_, [], _++_};
 ghost use lib.ListN.{length, take};
 ghost use Rattle.text.specs.Laid.{Put, Counted};
-ghost use Rattle.text.specs.Text.{digits, field};
+ghost use Rattle.text.specs.Text.{digits, field, turnLine, endLine, noRouteLine, unfinishedLine, refusedLine};
 
 // One byte.
 pub fn put_byte(out: &mut [u8], at: usize, byte: u8) -> usize
@@ -50,4 +50,62 @@ pub fn put_field(out: &mut [u8], at: usize, word: &[u8], value: u64) -> usize
 {
     let next = put_word(out, at, word);
     put_number(out, next, value)
+}
+
+// A turn: its number, its heuristic (table) and the vertex expanded.
+pub fn put_turn_line(out: &mut [u8], at: usize, number: u64, heuristic: u64, vertex: u64) -> usize
+    requires { ⌜ Counted at (turnLine number heuristic vertex) ⌝ }
+    ensures { λ r. ⌜ Put at (turnLine number heuristic vertex) (now (out .entry)) r (now (out .exit)) ⌝ }
+{
+    let turn = put_field(out, at, b"turn ", number);
+    let table = put_field(out, turn, b" table ", heuristic);
+    let place = put_field(out, table, b" place ", vertex);
+    put_byte(out, place, b'\n')
+}
+
+// The end of a search that found a route: the incumbent's cost, finished rounds, turns, and the bound.
+pub fn put_end_line(
+    out: &mut [u8],
+    at: usize,
+    cost: u64,
+    rounds: u64,
+    turns: u64,
+    bound: u64,
+) -> usize
+    requires { ⌜ Counted at (endLine cost rounds turns bound) ⌝ }
+    ensures { λ r. ⌜ Put at (endLine cost rounds turns bound) (now (out .entry)) r (now (out .exit)) ⌝ }
+{
+    let a = put_field(out, at, b"end cost ", cost);
+    let b = put_field(out, a, b" rounds ", rounds);
+    let c = put_field(out, b, b" turns ", turns);
+    let d = put_field(out, c, b" bound ", bound);
+    put_byte(out, d, b'\n')
+}
+
+// The end of a search where there is no route.
+pub fn put_no_route_line(out: &mut [u8], at: usize, turns: u64) -> usize
+    requires { ⌜ Counted at (noRouteLine turns) ⌝ }
+    ensures { λ r. ⌜ Put at (noRouteLine turns) (now (out .entry)) r (now (out .exit)) ⌝ }
+{
+    let end = put_field(out, at, b"no route turns ", turns);
+    put_byte(out, end, b'\n')
+}
+
+// The end of a search whose budget was spent in the first round.
+pub fn put_unfinished_line(out: &mut [u8], at: usize, turns: u64) -> usize
+    requires { ⌜ Counted at (unfinishedLine turns) ⌝ }
+    ensures { λ r. ⌜ Put at (unfinishedLine turns) (now (out .entry)) r (now (out .exit)) ⌝ }
+{
+    let end = put_field(out, at, b"unfinished turns ", turns);
+    put_byte(out, end, b'\n')
+}
+
+// A refusal: its number and its position.
+pub fn put_refused_line(out: &mut [u8], at: usize, number: u64, position: u64) -> usize
+    requires { ⌜ Counted at (refusedLine number position) ⌝ }
+    ensures { λ r. ⌜ Put at (refusedLine number position) (now (out .entry)) r (now (out .exit)) ⌝ }
+{
+    let word = put_field(out, at, b"refused ", number);
+    let end = put_field(out, word, b" at ", position);
+    put_byte(out, end, b'\n')
 }
