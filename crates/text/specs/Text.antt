@@ -36,21 +36,21 @@ field word n = word ++ digits n
 abbrev pub newline : List ℕ
 newline = 10 ∷ []
 
--- a turn's number, its table (0 the anchor) and the place expanded
+-- a turn's number, its heuristic (table; 0 the anchor) and the vertex (place) expanded
 unfoldable pub turnLine : ℕ → ℕ → ℕ → List ℕ
-turnLine number table place =
-    field (ascii "turn ") number ++ field (ascii " table ") table ++ field (ascii " place ") place ++ newline
+turnLine number heuristic vertex =
+    field (ascii "turn ") number ++ field (ascii " table ") heuristic ++ field (ascii " place ") vertex ++ newline
 
--- places, each after a space
-unfoldable pub places : List ℕ → List ℕ
-places [] = []
-places (p ∷ ps) = field (ascii " ") p ++ places ps
+-- vertices (places), each after a space
+unfoldable pub vertices : List ℕ → List ℕ
+vertices [] = []
+vertices (v ∷ vs) = field (ascii " ") v ++ vertices vs
 
--- the kept route's places
+-- the incumbent's (kept route's) vertices
 unfoldable pub routeLine : List ℕ → List ℕ
-routeLine route = ascii "route" ++ places route ++ newline
+routeLine route = ascii "route" ++ vertices route ++ newline
 
--- the kept cost, finished rounds, turns, and W1·W2 as bound
+-- the incumbent's cost (kept cost), finished rounds, turns, and W1·W2 as bound
 unfoldable pub endLine : ℕ → ℕ → ℕ → ℕ → List ℕ
 endLine cost rounds turns bound =
     field (ascii "end cost ") cost ++ field (ascii " rounds ") rounds ++ field (ascii " turns ") turns

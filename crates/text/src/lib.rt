@@ -1,9 +1,10 @@
 // Printed text, put into a lent buffer from an offset on as far as there is room.
+ghost use Prim.Native.Nat.{min};
 ghost use mathlib.Core.Path.{_≡_};
 ghost use mathlib.Core.List.{_∷_, [], _++_};
 ghost use lib.ListN.{length, take};
 ghost use Rattle.text.specs.Laid.{Put, Counted};
-ghost use Rattle.text.specs.Text.{digits, field, turnLine, endLine, noRouteLine, unfinishedLine, refusedLine};
+ghost use Rattle.text.specs.Text.{ascii, digits, field, turnLine, vertices, routeLine, endLine, noRouteLine, unfinishedLine, refusedLine};
 
 // One byte.
 pub fn put_byte(out: &mut [u8], at: usize, byte: u8) -> usize
@@ -61,6 +62,46 @@ pub fn put_turn_line(out: &mut [u8], at: usize, number: u64, heuristic: u64, ver
     let table = put_field(out, turn, b" table ", heuristic);
     let place = put_field(out, table, b" place ", vertex);
     put_byte(out, place, b'\n')
+}
+
+// A route (its vertices): the first so many of its slice, or all that there are.
+pub fn put_route_line(out: &mut [u8], at: usize, route: &[u32], count: usize) -> usize
+    requires { ⌜ Counted at (routeLine (take count (now route))) ⌝ }
+    ensures { λ r. ⌜ Put at (routeLine (take count (now (route .entry)))) (now (out .entry)) r (now (out .exit)) ⌝ }
+{
+    let word = put_word(out, at, b"route");
+    let end = put_vertices(out, word, route, count);
+    put_byte(out, end, b'\n')
+}
+
+// The vertices of a route, each after a space.
+fn put_vertices(out: &mut [u8], at: usize, route: &[u32], count: usize) -> usize
+    requires { ⌜ Counted at (vertices (take count (now route))) ⌝ }
+    ensures { λ r. ⌜ Put at (vertices (take count (now (route .entry)))) (now (out .entry)) r (now (out .exit)) ⌝ }
+{
+    let shown = least(count, route.len());
+    let mut next = at;
+    let mut i = 0;
+    while i < shown {
+        next = put_vertex(out, next, route[i]);
+        i += 1;
+    }
+    next
+}
+
+// One vertex after a space.
+fn put_vertex(out: &mut [u8], at: usize, vertex: u32) -> usize
+    requires { ⌜ Counted at (field (ascii " ") vertex) ⌝ }
+    ensures { λ r. ⌜ Put at (field (ascii " ") vertex) (now (out .entry)) r (now (out .exit)) ⌝ }
+{
+    put_field(out, at, b" ", vertex as u64)
+}
+
+// The lesser of two numbers.
+fn least(a: usize, b: usize) -> usize
+    ensures { λ r. ⌜ r ≡ min a b ⌝ }
+{
+    if a < b { a } else { b }
 }
 
 // The end of a search that found a route: the incumbent's cost, finished rounds, turns, and the bound.
