@@ -1,5 +1,5 @@
 -- The laws that other crates may cite, and job A's lines.
 pub mod Laid
 pub mod Digits
-pub mod Route
+pub mod Each
 pub mod Lines

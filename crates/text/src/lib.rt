@@ -4,7 +4,7 @@ ghost use mathlib.Core.Path.{_≡_};
 ghost use mathlib.Core.List.{_∷_, [], _++_};
 ghost use lib.ListN.{length, take};
 ghost use Rattle.text.specs.Laid.{Put, Counted};
-ghost use Rattle.text.specs.Text.{ascii, digits, field, turnLine, vertices, routeLine, endLine, noRouteLine, unfinishedLine, refusedLine};
+ghost use Rattle.text.specs.Text.{ascii, digits, field, turnLine, loggedLine, turnLines, vertices, routeLine, endLine, noRouteLine, unfinishedLine, refusedLine};
 
 // One byte.
 pub fn put_byte(out: &mut [u8], at: usize, byte: u8) -> usize
@@ -62,6 +62,30 @@ pub fn put_turn_line(out: &mut [u8], at: usize, number: u64, heuristic: u64, ver
     let table = put_field(out, turn, b" table ", heuristic);
     let place = put_field(out, table, b" place ", vertex);
     put_byte(out, place, b'\n')
+}
+
+// The turns that a log shows: its first so many words, or all that there are.
+pub fn put_turn_lines(out: &mut [u8], at: usize, log: &[u32], count: usize) -> usize
+    requires { ⌜ Counted at (turnLines (take count (now log))) ⌝ }
+    ensures { λ r. ⌜ Put at (turnLines (take count (now (log .entry)))) (now (out .entry)) r (now (out .exit)) ⌝ }
+{
+    let shown = least(count, log.len());
+    let mut next = at;
+    let mut i = 0;
+    while i < shown {
+        next = put_logged_line(out, next, 1 + i, log[i]);
+        i += 1;
+    }
+    next
+}
+
+// The turn that a log word shows.
+fn put_logged_line(out: &mut [u8], at: usize, number: usize, word: u32) -> usize
+    requires { ⌜ Counted at (loggedLine number word) ⌝ }
+    ensures { λ r. ⌜ Put at (loggedLine number word) (now (out .entry)) r (now (out .exit)) ⌝ }
+{
+    let shown = word as u64;
+    put_turn_line(out, at, number as u64, shown / 65536, shown % 65536)
 }
 
 // A route (its vertices): the first so many of its slice, or all that there are.

@@ -4,9 +4,9 @@ use native.Mathlib.Omega.{arith}
 use lib.ListN.{length, take}
 use borrow.Author.Needs.{needs}
 use Rattle.text.specs.Laid.{Put}
-use Rattle.text.specs.Text.{vertices}
-use Rattle.text.proofs.Laid.{put-nil, put-length}
-use Rattle.text.proofs.Route.{next-vertex, vertex-counted, take-least}
+use Rattle.text.specs.Text.{spaced, vertices}
+use Rattle.text.proofs.Laid.{put-length}
+use Rattle.text.proofs.Each.{none-each, next-each, each-counted, take-least}
 use Rattle.text.proofs.put_vertices.Statement.{statement}
 use Rattle.text.proofs.put_vertices.Tie as tie
 use Rattle.text.proofs.put_vertices.Reads as reads
@@ -27,7 +27,9 @@ least-requires c κs = search needs
 -- src/lib.rt:85:5
 loop-holds : tie.Need-loop-holds Inv-loop μ-loop
 unfolding vertices
-loop-holds c = (put-nil _ _, search needs)
+loop-holds c =
+    let a = c .before .before .before .args in
+    (none-each spaced 0 (a .at) (a .route .now) (a .out .now), search needs)
 
 -- src/lib.rt:86:38
 mul-put-vertex : tie.Need-mul-put-vertex Inv-loop μ-loop
@@ -39,10 +41,11 @@ shared-slice-read-put-vertex c = search needs
 
 -- src/lib.rt:86:9
 put-vertex-requires : tie.Need-put-vertex-requires Inv-loop μ-loop
+unfolding vertices
 put-vertex-requires c κs =
     let l = c .before .before .before .loop in
     let s = c .before .before .before .before .before .before .before in
-    vertex-counted (l .i) (s .args .count) (s .args .route .now) (omega arith) (omega arith) (l .inv .0) (s .pre)
+    each-counted spaced 0 (l .i) (s .args .route .now) (omega arith) (s .args .count) (omega arith) (l .inv .0) (s .pre)
 
 -- src/lib.rt:87:9
 add-i : tie.Need-add-i Inv-loop μ-loop
@@ -54,9 +57,10 @@ loop-less c = search needs
 
 -- src/lib.rt:85:5
 loop-again : tie.Need-loop-again Inv-loop μ-loop
+unfolding vertices
 loop-again c =
     let l = c .before .before .before .before .before .before .loop in
-    (next-vertex (l .i) (c .before .before .before .before .before .before .before .before .before .before .args .route .now) (omega arith) (l .inv .0) (c .before .before .put-vertex .ensures), search needs)
+    (next-each spaced 0 (l .i) (c .before .before .before .before .before .before .before .before .before .before .args .route .now) (omega arith) (l .inv .0) (c .before .before .put-vertex .ensures), search needs)
 
 -- src/lib.rt:78:1
 same-length : tie.Need-same-length Inv-loop μ-loop
