@@ -2,4 +2,5 @@
 pub mod Laid
 pub mod Digits
 pub mod Each
+pub mod Lengths
 pub mod Lines
