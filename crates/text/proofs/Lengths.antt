@@ -1,9 +1,9 @@
 -- How long the lines are where every number is below 10 ^ k: what a caller needs to see that their ends are offsets.
 -- Assumes nothing.
-use Prim.Native.Nat.{ℕ, zero, suc, _+_, _*_, _/_, _%_, _^_, _<_, _≤_}
+use Prim.Native.Nat.{ℕ, suc, _+_, _*_, _/_, _%_, _^_, _<_, _≤_}
 use native.Mathlib.Omega.{arith}
-use mathlib.Core.Path.{_≡_, refl, sym, ap, _∙_, subst}
-use mathlib.Core.List.{List, [], _∷_, _++_}
+use mathlib.Core.Path.{subst}
+use mathlib.Core.List.{List, [], _∷_}
 use lib.ListN.{length, getD, length-append}
 use Rattle.text.specs.Text.{ascii, digits, field, turnLine, loggedLine, each, turnLines, spaced, vertices, routeLine, endLine, noRouteLine, unfinishedLine, refusedLine}
 use Rattle.text.proofs.Digits.{length-digits}

@@ -1,7 +1,6 @@
 -- Document 01's printed text, and numbers of every length, as the definitions give them: all by computing.
-use Prim.Native.Nat.{ℕ}
 use mathlib.Core.Path.{_≡_, refl}
-use mathlib.Core.List.{List, [], _∷_, _++_}
+use mathlib.Core.List.{[], _∷_, _++_}
 use Rattle.text.specs.Text.{ascii, digitsIn, digits, field, turnLine, loggedLine, each, turnLines, vertices, routeLine, endLine, noRouteLine, unfinishedLine, refusedLine}
 
 -- job A, from its log, route and figures

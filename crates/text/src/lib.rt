@@ -1,8 +1,8 @@
 // Printed text, put into a lent buffer from an offset on as far as there is room.
 ghost use Prim.Native.Nat.{min};
 ghost use mathlib.Core.Path.{_≡_};
-ghost use mathlib.Core.List.{_∷_, [], _++_};
-ghost use lib.ListN.{length, take};
+ghost use mathlib.Core.List.{_∷_, []};
+ghost use lib.ListN.{take};
 ghost use Rattle.text.specs.Laid.{Put, Counted};
 ghost use Rattle.text.specs.Text.{ascii, digits, field, turnLine, loggedLine, turnLines, vertices, routeLine, endLine, noRouteLine, unfinishedLine, refusedLine};
 
@@ -45,7 +45,7 @@ pub fn put_number(out: &mut [u8], at: usize, value: u64) -> usize
 }
 
 // A word and a number after it.
-pub fn put_field(out: &mut [u8], at: usize, word: &[u8], value: u64) -> usize
+fn put_field(out: &mut [u8], at: usize, word: &[u8], value: u64) -> usize
     requires { ⌜ Counted at (field (now word) value) ⌝ }
     ensures { λ r. ⌜ Put at (field (now (word .entry)) value) (now (out .entry)) r (now (out .exit)) ⌝ }
 {

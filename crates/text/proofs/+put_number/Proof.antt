@@ -24,7 +24,6 @@ abbrev put-number-below : ℕ → In 1 put-number-kinds.ps
 put-number-below t =
     and 1 put-number-kinds.ps (falls 1 put-number-kinds.ps _<_ μ-put-number t) put-number.Pre
 
--- src/lib.rt:38:17
 put-number-add-last : (t : ℕ) → put-number-lts.Need-add-last (
   put-byte-reads.Asked,
   put-byte-reads.Learnt,
@@ -33,7 +32,6 @@ put-number-add-last : (t : ℕ) → put-number-lts.Need-add-last (
 ) (put-number-at t) put-number.Post
 put-number-add-last t c = search needs
 
--- src/lib.rt:38:16
 put-number-cast-last : (t : ℕ) → put-number-lts.Need-cast-last (
   put-byte-reads.Asked,
   put-byte-reads.Learnt,
@@ -42,7 +40,6 @@ put-number-cast-last : (t : ℕ) → put-number-lts.Need-cast-last (
 ) (put-number-at t) put-number.Post
 put-number-cast-last t c = search needs
 
--- src/lib.rt:40:9
 put-number-put-byte-requires : (t : ℕ) → put-number-lts.Need-put-byte-requires (
   put-byte-reads.Asked,
   put-byte-reads.Learnt,
@@ -53,7 +50,6 @@ put-number-put-byte-requires t c κs =
     let a = c .before .before .before .args in
     one-counted (a .at) (a .value) (c .before .if1 .taken) (c .before .before .before .pre .1)
 
--- src/lib.rt:40:9
 put-number-same-length : (t : ℕ) → put-number-lts.Need-same-length (
   put-byte-reads.Asked,
   put-byte-reads.Learnt,
@@ -62,7 +58,6 @@ put-number-same-length : (t : ℕ) → put-number-lts.Need-same-length (
 ) (put-number-at t) put-number.Post
 put-number-same-length t c = put-length (c .before .before .put-byte .ensures)
 
--- src/lib.rt:40:9
 put-number-returns : (t : ℕ) → put-number-lts.Need-returns (
   put-byte-reads.Asked,
   put-byte-reads.Learnt,
@@ -72,7 +67,6 @@ put-number-returns : (t : ℕ) → put-number-lts.Need-returns (
 put-number-returns t c =
     one-put (c .before .before .before .before .if1 .taken) (c .before .before .put-byte .ensures)
 
--- src/lib.rt:42:9
 put-number-put-number-requires : (t : ℕ) → put-number-lts.Need-put-number-requires (
   put-byte-reads.Asked,
   put-byte-reads.Learnt,
@@ -83,7 +77,6 @@ put-number-put-number-requires t c κs =
     let s = c .before .before .before in
     (omega arith, front-counted (s .args .at) (s .args .value) (c .before .if1 .left) (s .pre .1))
 
--- src/lib.rt:43:5
 put-number-put-byte-requires-2 : (t : ℕ) → put-number-lts.Need-put-byte-requires-2 (
   put-byte-reads.Asked,
   put-byte-reads.Learnt,
@@ -94,7 +87,6 @@ put-number-put-byte-requires-2 t c κs =
     let s = c .before .before .before .before .before .before .before in
     last-counted (s .args .at) (s .args .value) (c .before .before .before .before .before .if1 .left) (c .before .before .before .put-number .ensures) (s .pre .1)
 
--- src/lib.rt:34:1
 put-number-returns-2 : (t : ℕ) → put-number-lts.Need-returns-2 (
   put-byte-reads.Asked,
   put-byte-reads.Learnt,
@@ -107,7 +99,6 @@ put-number-returns-2 t c =
     (c .before .before .before .before .before .before .put-number .ensures)
     (c .before .before .put-byte2 .ensures)
 
--- src/lib.rt:34:1
 put-number-same-length-2 : (t : ℕ) → put-number-lts.Need-same-length-2 (
   put-byte-reads.Asked,
   put-byte-reads.Learnt,

@@ -2,62 +2,47 @@
 use native.Mathlib.Omega.{arith}
 use lib.ListN.{length-append}
 use borrow.Author.Needs.{needs}
-use Rattle.text.specs.Text.{ascii, endLine}
+use Rattle.text.specs.Text.{ascii, field, endLine}
 use Rattle.text.proofs.Laid.{put-length, then-put}
 use Rattle.text.proofs.put_end_line.Statement.{statement}
 use Rattle.text.proofs.put_end_line.Tie as tie
-use Rattle.text.proofs.put_end_line.Reads as reads
-use Rattle.text.proofs.put_end_line.Lts as lts
-use Rattle.text.proofs.put_byte.Reads as put-byte-reads
-use Rattle.text.proofs.put_field.Reads as put-field-reads
 
--- src/lib.rt:71:32
 slice-aggregate-put-field : tie.Need-slice-aggregate-put-field
 slice-aggregate-put-field c = search needs
 
--- src/lib.rt:71:9
 put-field-requires : tie.Need-put-field-requires
-unfolding ascii endLine
+unfolding ascii field endLine
 put-field-requires c κs = omega (arith, simp length-append at (c .before .before .before .pre))
 
--- src/lib.rt:72:31
 slice-aggregate-put-field-2 : tie.Need-slice-aggregate-put-field-2
 slice-aggregate-put-field-2 c = search needs
 
--- src/lib.rt:72:9
 put-field-requires-2 : tie.Need-put-field-requires-2
-unfolding ascii endLine
+unfolding ascii field endLine
 put-field-requires-2 c κs = omega (arith, simp length-append at (c .before .before .before .before .before .before .before .before .pre))
 
--- src/lib.rt:73:31
 slice-aggregate-put-field-3 : tie.Need-slice-aggregate-put-field-3
 slice-aggregate-put-field-3 c = search needs
 
--- src/lib.rt:73:9
 put-field-requires-3 : tie.Need-put-field-requires-3
-unfolding ascii endLine
+unfolding ascii field endLine
 put-field-requires-3 c κs = omega (arith, simp length-append at (c .before .before .before .before .before .before .before .before .before .before .before .before .before .pre))
 
--- src/lib.rt:74:31
 slice-aggregate-put-field-4 : tie.Need-slice-aggregate-put-field-4
 slice-aggregate-put-field-4 c = search needs
 
--- src/lib.rt:74:9
 put-field-requires-4 : tie.Need-put-field-requires-4
-unfolding ascii endLine
+unfolding ascii field endLine
 put-field-requires-4 c κs = omega (arith, simp length-append at (c .before .before .before .before .before .before .before .before .before .before .before .before .before .before .before .before .before .before .pre))
 
--- src/lib.rt:75:5
 put-byte-requires : tie.Need-put-byte-requires
-unfolding ascii endLine
+unfolding ascii field endLine
 put-byte-requires c κs = omega (arith, simp length-append at (c .before .before .before .before .before .before .before .before .before .before .before .before .before .before .before .before .before .before .before .before .before .before .pre))
 
--- src/lib.rt:67:1
 returns : tie.Need-returns
 unfolding ascii endLine
 returns c = then-put (then-put (then-put (then-put (c .before .before .before .before .before .before .before .before .before .before .before .before .before .before .before .before .before .before .before .before .before .put-field .ensures) (c .before .before .before .before .before .before .before .before .before .before .before .before .before .before .before .before .put-field2 .ensures)) (c .before .before .before .before .before .before .before .before .before .before .before .put-field3 .ensures)) (c .before .before .before .before .before .before .put-field4 .ensures)) (c .before .before .put-byte .ensures)
 
--- src/lib.rt:67:1
 same-length : tie.Need-same-length
 same-length c = put-length (returns c)
 

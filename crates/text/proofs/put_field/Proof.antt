@@ -5,27 +5,19 @@ use Rattle.text.specs.Text.{field}
 use Rattle.text.proofs.Laid.{put-length, then-put}
 use Rattle.text.proofs.put_field.Statement.{statement}
 use Rattle.text.proofs.put_field.Tie as tie
-use Rattle.text.proofs.put_field.Reads as reads
-use Rattle.text.proofs.put_field.Lts as lts
-use Rattle.text.proofs.put_number.Reads as put-number-reads
-use Rattle.text.proofs.put_word.Reads as put-word-reads
 
--- src/lib.rt:51:9
 put-word-requires : tie.Need-put-word-requires
 unfolding field
 put-word-requires c κs = omega (arith, simp length-append at (c .before .before .before .pre))
 
--- src/lib.rt:52:5
 put-number-requires : tie.Need-put-number-requires
 unfolding field
 put-number-requires c κs = omega (arith, simp length-append at (c .before .before .before .before .before .before .before .pre))
 
--- src/lib.rt:47:1
 returns : tie.Need-returns
 unfolding field
 returns c = then-put (c .before .before .before .before .before .before .put-word .ensures) (c .before .before .put-number .ensures)
 
--- src/lib.rt:47:1
 same-length : tie.Need-same-length
 same-length c = put-length (returns c)
 

@@ -3,20 +3,14 @@ use borrow.Author.Needs.{needs}
 use Rattle.text.specs.Text.{loggedLine}
 use Rattle.text.proofs.put_logged_line.Statement.{statement}
 use Rattle.text.proofs.put_logged_line.Tie as tie
-use Rattle.text.proofs.put_logged_line.Reads as reads
-use Rattle.text.proofs.put_logged_line.Lts as lts
-use Rattle.text.proofs.put_turn_line.Reads as put-turn-line-reads
 
--- src/lib.rt:88:5
 put-turn-line-requires : tie.Need-put-turn-line-requires
 unfolding loggedLine
 put-turn-line-requires c κs = c .before .before .pre
 
--- src/lib.rt:83:1
 same-length : tie.Need-same-length
 same-length c = search needs
 
--- src/lib.rt:83:1
 returns : tie.Need-returns
 unfolding loggedLine
 returns c = c .before .before .put-turn-line .ensures

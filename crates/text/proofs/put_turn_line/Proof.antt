@@ -2,53 +2,40 @@
 use native.Mathlib.Omega.{arith}
 use lib.ListN.{length-append}
 use borrow.Author.Needs.{needs}
-use Rattle.text.specs.Text.{ascii, turnLine}
+use Rattle.text.specs.Text.{ascii, field, turnLine}
 use Rattle.text.proofs.Laid.{put-length, then-put}
 use Rattle.text.proofs.put_turn_line.Statement.{statement}
 use Rattle.text.proofs.put_turn_line.Tie as tie
-use Rattle.text.proofs.put_turn_line.Reads as reads
-use Rattle.text.proofs.put_turn_line.Lts as lts
-use Rattle.text.proofs.put_byte.Reads as put-byte-reads
-use Rattle.text.proofs.put_field.Reads as put-field-reads
 
--- src/lib.rt:60:35
 slice-aggregate-put-field : tie.Need-slice-aggregate-put-field
 slice-aggregate-put-field c = search needs
 
--- src/lib.rt:60:9
 put-field-requires : tie.Need-put-field-requires
-unfolding ascii turnLine
+unfolding ascii field turnLine
 put-field-requires c κs = omega (arith, simp length-append at (c .before .before .before .pre))
 
--- src/lib.rt:61:38
 slice-aggregate-put-field-2 : tie.Need-slice-aggregate-put-field-2
 slice-aggregate-put-field-2 c = search needs
 
--- src/lib.rt:61:9
 put-field-requires-2 : tie.Need-put-field-requires-2
-unfolding ascii turnLine
+unfolding ascii field turnLine
 put-field-requires-2 c κs = omega (arith, simp length-append at (c .before .before .before .before .before .before .before .before .pre))
 
--- src/lib.rt:62:39
 slice-aggregate-put-field-3 : tie.Need-slice-aggregate-put-field-3
 slice-aggregate-put-field-3 c = search needs
 
--- src/lib.rt:62:9
 put-field-requires-3 : tie.Need-put-field-requires-3
-unfolding ascii turnLine
+unfolding ascii field turnLine
 put-field-requires-3 c κs = omega (arith, simp length-append at (c .before .before .before .before .before .before .before .before .before .before .before .before .before .pre))
 
--- src/lib.rt:63:5
 put-byte-requires : tie.Need-put-byte-requires
-unfolding ascii turnLine
+unfolding ascii field turnLine
 put-byte-requires c κs = omega (arith, simp length-append at (c .before .before .before .before .before .before .before .before .before .before .before .before .before .before .before .before .before .pre))
 
--- src/lib.rt:56:1
 returns : tie.Need-returns
 unfolding ascii turnLine
 returns c = then-put (then-put (then-put (c .before .before .before .before .before .before .before .before .before .before .before .before .before .before .before .before .put-field .ensures) (c .before .before .before .before .before .before .before .before .before .before .before .put-field2 .ensures)) (c .before .before .before .before .before .before .put-field3 .ensures)) (c .before .before .put-byte .ensures)
 
--- src/lib.rt:56:1
 same-length : tie.Need-same-length
 same-length c = put-length (returns c)
 

@@ -1,7 +1,7 @@
 -- `put_turn_lines` meets its contract. The loop's invariant: the lines of the first i log words were put. Assumes nothing.
 use Prim.Native.Nat.{_≤_, _-_}
 use native.Mathlib.Omega.{arith}
-use lib.ListN.{length, take}
+use lib.ListN.{take}
 use borrow.Author.Needs.{needs}
 use Rattle.text.specs.Laid.{Put}
 use Rattle.text.specs.Text.{loggedLine, turnLines}
@@ -9,10 +9,6 @@ use Rattle.text.proofs.Laid.{put-length}
 use Rattle.text.proofs.Each.{none-each, next-each, each-counted, take-least}
 use Rattle.text.proofs.put_turn_lines.Statement.{statement}
 use Rattle.text.proofs.put_turn_lines.Tie as tie
-use Rattle.text.proofs.put_turn_lines.Reads as reads
-use Rattle.text.proofs.put_turn_lines.Lts as lts
-use Rattle.text.proofs.least.Reads as least-reads
-use Rattle.text.proofs.put_logged_line.Reads as put-logged-line-reads
 
 abbrev Inv-loop : tie.InvT-loop
 Inv-loop out₀ at log count shown next₀ i₀ out next i = Put at (turnLines (take i log)) out₀ next out × (i ≤ shown)
@@ -20,30 +16,24 @@ Inv-loop out₀ at log count shown next₀ i₀ out next i = Put at (turnLines (
 abbrev μ-loop : tie.MeasureT-loop
 μ-loop out₀ at log count shown next₀ i₀ out next i = shown - i
 
--- src/lib.rt:72:9
 least-requires : tie.Need-least-requires Inv-loop μ-loop
 least-requires c κs = search needs
 
--- src/lib.rt:75:5
 loop-holds : tie.Need-loop-holds Inv-loop μ-loop
 unfolding turnLines
 loop-holds c =
     let a = c .before .before .before .args in
     (none-each loggedLine 1 (a .at) (a .log .now) (a .out .now), search needs)
 
--- src/lib.rt:76:43
 add-put-logged-line : tie.Need-add-put-logged-line Inv-loop μ-loop
 add-put-logged-line c = search needs
 
--- src/lib.rt:76:50
 mul-put-logged-line : tie.Need-mul-put-logged-line Inv-loop μ-loop
 mul-put-logged-line c = search needs
 
--- src/lib.rt:76:50
 shared-slice-read-put-logged-line : tie.Need-shared-slice-read-put-logged-line Inv-loop μ-loop
 shared-slice-read-put-logged-line c = search needs
 
--- src/lib.rt:76:9
 put-logged-line-requires : tie.Need-put-logged-line-requires Inv-loop μ-loop
 unfolding turnLines
 put-logged-line-requires c κs =
@@ -51,15 +41,12 @@ put-logged-line-requires c κs =
     let s = c .before .before .before .before .before .before .before in
     each-counted loggedLine 1 (l .i) (s .args .log .now) (omega arith) (s .args .count) (omega arith) (l .inv .0) (s .pre)
 
--- src/lib.rt:77:9
 add-i : tie.Need-add-i Inv-loop μ-loop
 add-i c = search needs
 
--- src/lib.rt:75:5
 loop-less : tie.Need-loop-less Inv-loop μ-loop
 loop-less c = search needs
 
--- src/lib.rt:75:5
 loop-again : tie.Need-loop-again Inv-loop μ-loop
 unfolding turnLines
 loop-again c =
@@ -68,11 +55,9 @@ loop-again c =
       search needs,
     )
 
--- src/lib.rt:68:1
 same-length : tie.Need-same-length Inv-loop μ-loop
 same-length c = put-length (c .before .loop .inv .0)
 
--- src/lib.rt:68:1
 returns : tie.Need-returns Inv-loop μ-loop
 returns c =
     let l = c .before .loop in

@@ -3,24 +3,17 @@ use borrow.Author.Needs.{needs}
 use Rattle.text.specs.Text.{ascii}
 use Rattle.text.proofs.put_vertex.Statement.{statement}
 use Rattle.text.proofs.put_vertex.Tie as tie
-use Rattle.text.proofs.put_vertex.Reads as reads
-use Rattle.text.proofs.put_vertex.Lts as lts
-use Rattle.text.proofs.put_field.Reads as put-field-reads
 
--- src/lib.rt:97:24
 slice-aggregate-put-field : tie.Need-slice-aggregate-put-field
 slice-aggregate-put-field c = search needs
 
--- src/lib.rt:97:5
 put-field-requires : tie.Need-put-field-requires
 unfolding ascii
 put-field-requires c κs = c .before .before .before .pre
 
--- src/lib.rt:93:1
 same-length : tie.Need-same-length
 same-length c = search needs
 
--- src/lib.rt:93:1
 returns : tie.Need-returns
 unfolding ascii
 returns c = c .before .before .put-field .ensures

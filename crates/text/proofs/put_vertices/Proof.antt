@@ -1,7 +1,7 @@
 -- `put_vertices` meets its contract. The loop's invariant: the first i vertices were put. Assumes nothing.
 use Prim.Native.Nat.{_≤_, _-_}
 use native.Mathlib.Omega.{arith}
-use lib.ListN.{length, take}
+use lib.ListN.{take}
 use borrow.Author.Needs.{needs}
 use Rattle.text.specs.Laid.{Put}
 use Rattle.text.specs.Text.{spaced, vertices}
@@ -9,10 +9,6 @@ use Rattle.text.proofs.Laid.{put-length}
 use Rattle.text.proofs.Each.{none-each, next-each, each-counted, take-least}
 use Rattle.text.proofs.put_vertices.Statement.{statement}
 use Rattle.text.proofs.put_vertices.Tie as tie
-use Rattle.text.proofs.put_vertices.Reads as reads
-use Rattle.text.proofs.put_vertices.Lts as lts
-use Rattle.text.proofs.least.Reads as least-reads
-use Rattle.text.proofs.put_vertex.Reads as put-vertex-reads
 
 abbrev Inv-loop : tie.InvT-loop
 Inv-loop out₀ at route count shown next₀ i₀ out next i = Put at (vertices (take i route)) out₀ next out × (i ≤ shown)
@@ -20,26 +16,21 @@ Inv-loop out₀ at route count shown next₀ i₀ out next i = Put at (vertices 
 abbrev μ-loop : tie.MeasureT-loop
 μ-loop out₀ at route count shown next₀ i₀ out next i = shown - i
 
--- src/lib.rt:82:9
 least-requires : tie.Need-least-requires Inv-loop μ-loop
 least-requires c κs = search needs
 
--- src/lib.rt:85:5
 loop-holds : tie.Need-loop-holds Inv-loop μ-loop
 unfolding vertices
 loop-holds c =
     let a = c .before .before .before .args in
     (none-each spaced 0 (a .at) (a .route .now) (a .out .now), search needs)
 
--- src/lib.rt:86:38
 mul-put-vertex : tie.Need-mul-put-vertex Inv-loop μ-loop
 mul-put-vertex c = search needs
 
--- src/lib.rt:86:38
 shared-slice-read-put-vertex : tie.Need-shared-slice-read-put-vertex Inv-loop μ-loop
 shared-slice-read-put-vertex c = search needs
 
--- src/lib.rt:86:9
 put-vertex-requires : tie.Need-put-vertex-requires Inv-loop μ-loop
 unfolding vertices
 put-vertex-requires c κs =
@@ -47,26 +38,21 @@ put-vertex-requires c κs =
     let s = c .before .before .before .before .before .before .before in
     each-counted spaced 0 (l .i) (s .args .route .now) (omega arith) (s .args .count) (omega arith) (l .inv .0) (s .pre)
 
--- src/lib.rt:87:9
 add-i : tie.Need-add-i Inv-loop μ-loop
 add-i c = search needs
 
--- src/lib.rt:85:5
 loop-less : tie.Need-loop-less Inv-loop μ-loop
 loop-less c = search needs
 
--- src/lib.rt:85:5
 loop-again : tie.Need-loop-again Inv-loop μ-loop
 unfolding vertices
 loop-again c =
     let l = c .before .before .before .before .before .before .loop in
     (next-each spaced 0 (l .i) (c .before .before .before .before .before .before .before .before .before .before .args .route .now) (omega arith) (l .inv .0) (c .before .before .put-vertex .ensures), search needs)
 
--- src/lib.rt:78:1
 same-length : tie.Need-same-length Inv-loop μ-loop
 same-length c = put-length (c .before .loop .inv .0)
 
--- src/lib.rt:78:1
 returns : tie.Need-returns Inv-loop μ-loop
 returns c =
     let l = c .before .loop in
