@@ -244,8 +244,9 @@ module _ (s : List ℕ) (v : ℕ) (es : List Edge) where
         edges = omega (arith, d .edges);
         passes = rw e (a .passes 0);
         bytes =
-            λ bs. rw (e, f)
-            (sym (d .bytes bs ∙ ap (λ (l : List ℕ). encode planGroups w ++ (encode planGroups m ++ l)) (a .bytes bs)));
+            λ bs. ap (λ (x : ℕ). bytesOf x es) e
+            ∙ ap (λ (x : ℕ). encode planGroups w ++ (encode planGroups x ++ edgesBytes 0 es)) f
+            ∙ sym (d .bytes bs ∙ ap (λ (l : List ℕ). encode planGroups w ++ (encode planGroups m ++ l)) (a .bytes bs));
       }
 
   pub whole : decode s ≡ accepted v es → Whole s v es
