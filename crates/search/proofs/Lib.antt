@@ -1,0 +1,10 @@
+pub mod Tools
+pub mod Facts
+pub mod Moves
+pub mod Paths
+pub mod Sound
+pub mod Near
+pub mod Least
+pub mod Reached
+pub mod Back
+pub mod Ground
