@@ -1,26 +1,23 @@
 -- Laws of one edge: what an edge that was read passed and where its bytes stand, and when an edge is read.
 -- Assumes nothing.
-use Prim.Native.Nat.{ℕ, zero, suc, _+_, _-_, _≤_, _<_, _^_}
+use Prim.Native.Nat.{ℕ, _+_, _-_, _≤_, _<_}
 use native.Mathlib.Omega.{arith}
 use mathlib.Core.Path.{_≡_, refl, sym, ap, _∙_, subst}
-use mathlib.Core.Bool.{Bool, true, false, cond, _&&_, _||_}
-use mathlib.Core.List.{List, [], _∷_, _++_, append-assoc}
-use lib.ListN.{length, drop, length-append}
+use mathlib.Core.Bool.{Bool, true, false, cond, _&&_}
+use mathlib.Core.List.{List, _++_, append-assoc}
+use lib.ListN.{length, drop}
 use lib.Seq.{drop-at, drop-drop}
-use lib.Dec.{ltb, leb, eqb}
-use borrow.Author.Tests.{ltb-true, ltb-false, leb-true, leb-false, eqb-true, eqb-false, lt-ltb, le-ltb, le-leb, lt-leb, eq-eqb, ne-eqb}
+use lib.Dec.{ltb, eqb}
+use borrow.Author.Tests.{ltb-false, leb-false, eqb-true, le-ltb, lt-leb, eq-eqb}
 use Rattle.leb128.specs.Number.{Bytes, encode, read, planGroups}
-use Rattle.leb128.specs.OneForm.{FormAt}
-use Rattle.leb128.specs.declared.NumberRead.the-variants.{Value, Refused}
-use Rattle.leb128.proofs.Laws.{value-within, value-form, read-form, Within}
+use Rattle.leb128.proofs.Laws.{value-within, value-form, read-form}
 use Rattle.graph.specs.declared.Edge.{Edge}
 use Rattle.graph.specs.declared.Cursor.{Cursor}
-use Rattle.graph.specs.declared.Taken.{Taken}
 use Rattle.graph.specs.declared.Taken.the-variants.{Number}
 use Rattle.graph.specs.declared.EdgeRead.{EdgeRead}
 use Rattle.graph.specs.declared.EdgeRead.the-variants.{Next, Fault}
 use Rattle.graph.specs.Limits.{maxVertices, maxCost}
-use Rattle.graph.specs.Rows.{Row, row, take, taking, tailRows, headRows, costRows}
+use Rattle.graph.specs.Rows.{take, taking, tailRows, headRows, costRows}
 use Rattle.graph.specs.Plan.{leastAfter, past, nextEdge}
 use Rattle.graph.specs.Lists.{edgeRows, edgeBytes}
 use Rattle.graph.specs.OneForm.{EdgeWithin}
