@@ -8,3 +8,4 @@ pub mod Least
 pub mod Reached
 pub mod Back
 pub mod Ground
+pub mod Legal
