@@ -65,7 +65,7 @@ pub record Between (job : Job) (r : ℕ) (st : List Vertex) : Type 0 where
   pub near : r < length (job .schedule) → Near (job .edges) (job .start) (factors job r .w1) st
   pub reached : 0 < r → at st (job .goal) .g < unreached
 
-opened-offered : (h : ℕ) (p : Vertex) → T (p .opened) → T (offered 0 h p)
+pub opened-offered : (h : ℕ) (p : Vertex) → T (p .opened) → T (offered 0 h p)
 unfolding offered
 opened-offered h p t = yes-and (p .opened) _ t tt
 

@@ -9,3 +9,4 @@ pub mod Reached
 pub mod Back
 pub mod Ground
 pub mod Legal
+pub mod Rule
