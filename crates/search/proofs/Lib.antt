@@ -10,3 +10,4 @@ pub mod Back
 pub mod Ground
 pub mod Legal
 pub mod Rule
+pub mod Runs
