@@ -11,3 +11,4 @@ pub mod Ground
 pub mod Legal
 pub mod Rule
 pub mod Runs
+pub mod Incumbent
