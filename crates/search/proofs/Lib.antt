@@ -12,3 +12,4 @@ pub mod Legal
 pub mod Rule
 pub mod Runs
 pub mod Incumbent
+pub mod Standing
