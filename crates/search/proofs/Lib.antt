@@ -13,3 +13,4 @@ pub mod Rule
 pub mod Runs
 pub mod Incumbent
 pub mod Standing
+pub mod Guarantee

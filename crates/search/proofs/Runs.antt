@@ -9,7 +9,7 @@ use lib.ListN.{length}
 use Rattle.search.specs.declared.Step.{Step}
 use Rattle.search.specs.declared.Step.the-variants.{Stuck, Finished, Due}
 use Rattle.search.specs.Job.{Job}
-use Rattle.search.specs.Rounds.{State, Stand, Moment, turned, ended, step, choice, turn, endRound, onFinished, settle, settled, onDue, advance, run, moments}
+use Rattle.search.specs.Rounds.{State, Stand, Moment, turned, ended, step, choice, turn, endRound, onFinished, settle, settled, begin, onDue, advance, run, moments}
 use Rattle.search.specs.Guarantee.{Linked, last, next, roundOf}
 
 -- ---- one turn
@@ -162,3 +162,7 @@ module _ (job : Job) where
   unfolding run moments
   counts zero z = omega arith
   counts (suc n) z = counts-suc n z (counts n (advance job z)) (going-on z)
+
+  pub begin-expansions : begin job .state .progress .expansions ≡ 0
+  unfolding begin settled
+  begin-expansions = settle-expansions _ _

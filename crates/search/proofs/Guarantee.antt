@@ -1,0 +1,136 @@
+-- The guarantee, put together.
+-- Assumes nothing.
+use mathlib.Core.Path.{_≡_, refl, sym, ap, _∙_, subst}
+use mathlib.Core.Logic.{_⊎_, inl, inr, _↔_}
+use mathlib.Core.Bool.{Bool, true, false, cond, not}
+use mathlib.Core.List.{List, [], _∷_, map, List·Memᴰ}
+use Prim.Native.Nat.{ℕ, zero, suc, _+_, _-_, _*_, _≤_, _<_, suc-le-suc}
+use native.Mathlib.Nat.{le-refl}
+use native.Mathlib.Omega.{arith}
+use lib.ListN.{length, take}
+use lib.Dec.{T, eqb}
+use mir.Facts.{eqb-yes, eqb-no}
+use Rattle.search.specs.declared.Step.{Step}
+use Rattle.search.specs.declared.Step.the-variants.{Stuck, Finished, Due}
+use Rattle.search.specs.declared.Answer.{Answer}
+use Rattle.search.specs.declared.Answer.the-variants.{NoRoute, Unfinished}
+use Rattle.search.specs.declared.Answer.the-variants
+use Rattle.search.specs.Walk.{Walk, NoWalk}
+use Rattle.search.specs.Job.{Job, factors, unreached, at}
+use Rattle.search.specs.Rounds.{State, Stand, Moment, Outcome, begin, advance, run, moments, search}
+use Rattle.search.specs.Call.{Memory, Call, faultOf, jobOf}
+use Rattle.search.specs.Outcome.{Ending, route, noRoute, unfinished, refused, figures, bound, summary, cutShort, answerAt, answerOf, routeAfter, logWord, logAfter}
+use Rattle.search.specs.Guarantee.{Linked, EachTwo, Twice, inRound, roundOf, Cut, Guarantee}
+use Rattle.search.proofs.Tools.{cond-ind}
+use Rattle.search.proofs.Facts.{Valid, TracedWalk, Steady}
+use Rattle.search.proofs.Ground.{Ground}
+use Rattle.search.proofs.Legal.{Between, between, no-walk, goal-unreached}
+use Rattle.search.proofs.Runs.{run-suc, linked, moments-within, moments-more, moments-full, counts, begin-expansions}
+use Rattle.search.proofs.Incumbent
+use Rattle.search.proofs.Standing.{Good, Ok, Says, says-due, begin-good, run-good, steady, rounds-by}
+
+-- ---- how the search ends, and what is answered
+
+pub data Ended (job : Job) (z : Stand) : Answer → Type 0 where
+  is-none : z .step ≡ Stuck → Ended job z (NoRoute (z .state .progress .expansions))
+  is-cut : (m a : ℕ) → z .step ≡ Due m a → z .state .progress .rounds ≡ 0 → Ended job z (Unfinished (z .state .progress .expansions))
+  is-whole : z .step ≡ Finished → Ended job z (the-variants.Route (summary job (z .state)))
+  is-part : (m a : ℕ) → z .step ≡ Due m a → 0 < z .state .progress .rounds → Ended job z (the-variants.Route (summary job (z .state)))
+
+pub ended : (job : Job) (z : Stand) → Ended job z (answerOf job z)
+unfolding answerOf answerAt cutShort
+ended job z = by (z .step) refl
+  where
+    by : (t : Step) → z .step ≡ t → Ended job z (answerAt job t (z .state))
+    by Stuck e = is-none e
+    by Finished e = is-whole e
+    by (Due m a) e =
+        cond-ind (λ (x : Answer). Ended job z x) (eqb (z .state .progress .rounds) 0) (λ t. is-cut m a e (eqb-yes t))
+        (λ t. is-part m a e (let n : z .state .progress .rounds ≡ 0 → ⊥ = eqb-no t in omega arith))
+
+module _ (job : Job) (v : Valid job)
+    (traces : (s : State) → Ground job (s .vertices) → at (s .vertices) (job .goal) .g < unreached → TracedWalk job s)
+    (each-twice : (job : Job) (Good : Stand → Type 0) → Steady job Good → (n : ℕ) (z : Stand) → Good z → EachTwo Twice (moments job n z))
+    (moments-inside : (job : Job) (Good : Stand → Type 0) → Steady job Good → (n : ℕ) (z : Stand) → Good z → (t : Moment) → List·Memᴰ t (moments job n z) → t .choice .vertex < job .size)
+    (moments-scheduled : (job : Job) (Good : Stand → Type 0) → Steady job Good → (n : ℕ) (z : Stand) → Good z → (t : Moment) → List·Memᴰ t (moments job n z) → roundOf t < length (job .schedule))
+    (few-in-round : (v : ℕ) (ts : List Moment) → EachTwo Twice ts → ((t : Moment) → List·Memᴰ t ts → t .choice .vertex < v) → (r : ℕ) → length (inRound r ts) ≤ 2 * v)
+    (few-in-all : (v k : ℕ) (ts : List Moment) → ((r : ℕ) → length (inRound r ts) ≤ 2 * v) → ((t : Moment) → List·Memᴰ t ts → roundOf t < k) → length ts ≤ 2 * v * k)
+    (route-words : (job : Job) (s : State) (old : List ℕ) → 0 < s .progress .rounds → take (length (s .incumbent)) (routeAfter job s old) ≡ s .incumbent)
+    (log-words : (ts : List Moment) (old : List ℕ) → take (length ts) (logAfter ts old) ≡ take (length (logAfter ts old)) (map logWord ts))
+    (budget : ℕ) where
+  abbrev z : Stand
+  z = run job budget (begin job)
+
+  abbrev s : State
+  s = z .state
+
+  abbrev rounds : ℕ
+  rounds = s .progress .rounds
+
+  first-good : Good job (begin job)
+  first-good = begin-good job v traces
+
+  good : Good job z
+  good = run-good job v traces budget (begin job) first-good
+
+  b : Between job rounds (s .vertices)
+  b = between job v (good .ok .reach)
+
+  says : {t : Step} → z .step ≡ t → Says job t s
+  says e = subst (λ (t : Step). Says job t s) e (good .says)
+
+  -- ---- 1 and 2
+
+  stuck-walk : z .step ≡ Stuck → NoWalk (job .edges) (job .start) (job .goal)
+  stuck-walk e = no-walk job v (s .vertices) (b .ground) (says e .1)
+
+  stuck-first : z .step ≡ Stuck → rounds ≡ 0
+  stuck-first e = by rounds refl
+    where
+      by : (r : ℕ) → rounds ≡ r → rounds ≡ 0
+      by zero h = h
+      by (suc r) h = absurd (goal-unreached job v (s .vertices) (b .ground) (says e .1) (b .reached (omega arith)))
+
+  is-spent : (m a : ℕ) → z .step ≡ Due m a → length (moments job budget (begin job)) ≡ budget
+  is-spent m a e = moments-full job budget m a (begin job) e
+
+  cut : (m a : ℕ) → z .step ≡ Due m a → rounds ≡ 0 → Cut budget (search job budget)
+  unfolding search
+  cut m a e f = record { key = m; vertex = a; due = e; first = f; spent = is-spent m a e }
+
+  -- ---- 6
+
+  steadily : Steady job (Good job)
+  steadily = steady job v traces
+
+  twice : (n : ℕ) → EachTwo Twice (moments job n (begin job))
+  twice n = each-twice job (Good job) steadily n (begin job) first-good
+
+  few : (n r : ℕ) → length (inRound r (moments job n (begin job))) ≤ 2 * job .size
+  few n = few-in-round (job .size) (moments job n (begin job)) (twice n) (moments-inside job (Good job) steadily n (begin job) first-good)
+
+  -- a turn that is due would be one more
+  one-more : (m a k : ℕ) → z .step ≡ Due m a → ((t : Moment) → List·Memᴰ t (moments job (suc budget) (begin job)) → roundOf t < k) → suc budget ≤ 2 * job .size * k
+  one-more m a k e h =
+      omega (arith, few-in-all (job .size) k (moments job (suc budget) (begin job)) (few (suc budget)) h, moments-more job budget m a (begin job) e)
+
+  enough : (m a : ℕ) → z .step ≡ Due m a → rounds ≡ 0 → 2 * job .size ≤ budget → ⊥
+  enough m a e f h =
+      omega (arith, one-more m a 1 e (λ t q. suc-le-suc (subst (λ (n : ℕ). roundOf t ≤ n) f (rounds-by job v traces budget t (begin job) first-good q))))
+
+  ample : (m a : ℕ) → z .step ≡ Due m a → 2 * job .size * length (job .schedule) ≤ budget → ⊥
+  ample m a e h =
+      omega (arith, one-more m a (length (job .schedule)) e (moments-scheduled job (Good job) steadily (suc budget) (begin job) first-good))
+
+  -- ---- 3 to 5
+
+  some-round : z .step ≡ Finished → 0 < rounds
+  some-round e = omega (arith, says e, v .some)
+
+  kept : 0 < rounds → Incumbent.Route job (s .incumbent) (s .progress .cost)
+  kept h = good .ok .kept .route h
+
+  -- ---- 7
+
+  turns-are : s .progress .expansions ≡ length (moments job budget (begin job))
+  turns-are = omega (arith, counts job budget (begin job), begin-expansions job)
