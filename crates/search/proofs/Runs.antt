@@ -33,10 +33,10 @@ pub data Going-on : Stand → Type 0 where
   over : (z : Stand) → ((m a : ℕ) → z .step ≡ Due m a → ⊥) → Going-on z
   due : (z : Stand) (m a : ℕ) → z .step ≡ Due m a → Going-on z
 
-stuck≢due : {m a : ℕ} → Stuck ≡ Due m a → ⊥
+pub stuck≢due : {m a : ℕ} → Stuck ≡ Due m a → ⊥
 stuck≢due e = let z : _≡_ {A = ℕ} 0 1 = cc in omega arith
 
-finished≢due : {m a : ℕ} → Finished ≡ Due m a → ⊥
+pub finished≢due : {m a : ℕ} → Finished ≡ Due m a → ⊥
 finished≢due e = let z : _≡_ {A = ℕ} 0 1 = cc in omega arith
 
 pub going-on : (z : Stand) → Going-on z
