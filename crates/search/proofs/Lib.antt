@@ -14,3 +14,4 @@ pub mod Runs
 pub mod Incumbent
 pub mod Standing
 pub mod Guarantee
+pub mod Lawful
