@@ -8,3 +8,5 @@ pub mod Least
 pub mod Reached
 pub mod Back
 pub mod Ground
+pub mod Route
+pub mod Pigeon
