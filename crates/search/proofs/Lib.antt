@@ -10,3 +10,5 @@ pub mod Back
 pub mod Ground
 pub mod Route
 pub mod Pigeon
+pub mod Trace
+pub mod Words
