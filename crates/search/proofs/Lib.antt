@@ -13,5 +13,9 @@ pub mod Rule
 pub mod Runs
 pub mod Incumbent
 pub mod Standing
-pub mod Guarantee
 pub mod Lawful
+pub mod Route
+pub mod Pigeon
+pub mod Trace
+pub mod Words
+pub mod Guarantee

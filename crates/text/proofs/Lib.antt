@@ -1,0 +1,4 @@
+-- The laws that other crates may cite, and job A's lines.
+pub mod Laid
+pub mod Digits
+pub mod Lines
