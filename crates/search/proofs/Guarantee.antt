@@ -22,11 +22,11 @@ use Rattle.search.specs.Call.{Memory, Call, faultOf, jobOf}
 use Rattle.search.specs.Outcome.{Ending, route, noRoute, unfinished, refused, figures, bound, summary, cutShort, answerAt, answerOf, routeAfter, logWord, logAfter}
 use Rattle.search.specs.Guarantee.{Linked, EachTwo, Twice, inRound, roundOf, Cut, Guarantee}
 use Rattle.search.proofs.Tools.{cond-ind}
-use Rattle.search.proofs.Facts.{Valid, TracedWalk, Steady}
-use Rattle.search.proofs.Ground.{Ground}
+use Rattle.search.proofs.Facts.{Valid, Steady}
 use Rattle.search.proofs.Legal.{Between, between, no-walk, goal-unreached}
 use Rattle.search.proofs.Runs.{run-suc, linked, moments-within, moments-more, moments-full, counts, begin-expansions, stuck≢due, finished≢due}
 use Rattle.search.proofs.Incumbent
+use Rattle.search.proofs.Words.{route-words, log-words}
 use Rattle.search.proofs.Standing.{Good, Ok, Says, says-due, begin-good, run-good, steady, rounds-by}
 
 -- ---- endings differ
@@ -60,14 +60,11 @@ ended job z = by (z .step) refl
         (λ t. is-part m a e (let n : z .state .progress .rounds ≡ 0 → ⊥ = eqb-no t in omega arith))
 
 module _ (job : Job) (v : Valid job)
-    (traces : (s : State) → Ground job (s .vertices) → at (s .vertices) (job .goal) .g < unreached → TracedWalk job s)
     (each-twice : (job : Job) (Good : Stand → Type 0) → Steady job Good → (n : ℕ) (z : Stand) → Good z → EachTwo Twice (moments job n z))
     (moments-inside : (job : Job) (Good : Stand → Type 0) → Steady job Good → (n : ℕ) (z : Stand) → Good z → (t : Moment) → List·Memᴰ t (moments job n z) → t .choice .vertex < job .size)
     (moments-scheduled : (job : Job) (Good : Stand → Type 0) → Steady job Good → (n : ℕ) (z : Stand) → Good z → (t : Moment) → List·Memᴰ t (moments job n z) → roundOf t < length (job .schedule))
     (few-in-round : (v : ℕ) (ts : List Moment) → EachTwo Twice ts → ((t : Moment) → List·Memᴰ t ts → t .choice .vertex < v) → (r : ℕ) → length (inRound r ts) ≤ 2 * v)
     (few-in-all : (v k : ℕ) (ts : List Moment) → ((r : ℕ) → length (inRound r ts) ≤ 2 * v) → ((t : Moment) → List·Memᴰ t ts → roundOf t < k) → length ts ≤ 2 * v * k)
-    (route-words : (job : Job) (s : State) (old : List ℕ) → 0 < s .progress .rounds → take (length (s .incumbent)) (routeAfter job s old) ≡ s .incumbent)
-    (log-words : (ts : List Moment) (old : List ℕ) → take (length ts) (logAfter ts old) ≡ take (length (logAfter ts old)) (map logWord ts))
     (budget : ℕ) where
   abbrev z : Stand
   z = run job budget (begin job)
@@ -79,10 +76,10 @@ module _ (job : Job) (v : Valid job)
   rounds = s .progress .rounds
 
   first-good : Good job (begin job)
-  first-good = begin-good job v traces
+  first-good = begin-good job v
 
   good : Good job z
-  good = run-good job v traces budget (begin job) first-good
+  good = run-good job v budget (begin job) first-good
 
   b : Between job rounds (s .vertices)
   b = between job v (good .ok .reach)
@@ -112,7 +109,7 @@ module _ (job : Job) (v : Valid job)
   -- ---- 6
 
   steadily : Steady job (Good job)
-  steadily = steady job v traces
+  steadily = steady job v
 
   twice : (n : ℕ) → EachTwo Twice (moments job n (begin job))
   twice n = each-twice job (Good job) steadily n (begin job) first-good
@@ -127,7 +124,7 @@ module _ (job : Job) (v : Valid job)
 
   enough : (m a : ℕ) → z .step ≡ Due m a → rounds ≡ 0 → 2 * job .size ≤ budget → ⊥
   enough m a e f h =
-      omega (arith, one-more m a 1 e (λ t q. suc-le-suc (subst (λ (n : ℕ). roundOf t ≤ n) f (rounds-by job v traces budget t (begin job) first-good q))))
+      omega (arith, one-more m a 1 e (λ t q. suc-le-suc (subst (λ (n : ℕ). roundOf t ≤ n) f (rounds-by job v budget t (begin job) first-good q))))
 
   ample : (m a : ℕ) → z .step ≡ Due m a → 2 * job .size * length (job .schedule) ≤ budget → ⊥
   ample m a e h =

@@ -14,9 +14,7 @@ use Rattle.search.specs.Walk.{Walk}
 use Rattle.search.specs.Job.{Job, heuristic, unreached, at}
 use Rattle.search.specs.Turn.{isAnchor}
 use Rattle.search.specs.Rounds.{State, Stand, Moment, inHand, choice, begin, advance, run, moments}
-use Rattle.search.proofs.Facts.{Valid, TracedWalk, Steady}
-use Rattle.search.proofs.Paths.{Some}
-use Rattle.search.proofs.Ground.{Ground}
+use Rattle.search.proofs.Facts.{Valid, Steady}
 use Rattle.search.proofs.Least.{keyAt}
 use Rattle.search.proofs.Legal.{between, walk-reached, reached-walk}
 use Rattle.search.proofs.Runs.{Going-on, over, due, going-on, moments-due, moments-over}
@@ -53,13 +51,12 @@ pub record Lawful (job : Job) (t : Moment) : Type 0 where
   pub anchor : T (isAnchor (t .choice .heuristic)) → keyOf job t ≡ least
   pub bound : {r : List ℕ} (n : ℕ) → Walk (job .edges) (job .start) (job .goal) r n → least ≤ inHand job (t .before) .w1 * n
 
-module _ (job : Job) (v : Valid job)
-    (traces : (s : State) → Ground job (s .vertices) → at (s .vertices) (job .goal) .g < unreached → TracedWalk job s) (n : ℕ) where
+module _ (job : Job) (v : Valid job) (n : ℕ) where
   lawful-at : (z : Stand) (m a : ℕ) → Good job z → z .step ≡ Due m a → Lawful job (record { before = z .state; choice = choice job m a (z .state) })
   unfolding keyOf
   lawful-at z m a y e =
-      let l = legal job v traces z m a y e in
-      record { least = m; within = l .within; anchor = λ t. anchored t (l .anchor t); bound = lead-bound job v traces z m a y e }
+      let l = legal job v z m a y e in
+      record { least = m; within = l .within; anchor = λ t. anchored t (l .anchor t); bound = lead-bound job v z m a y e }
     where
       anchored : T (isAnchor (choice job m a (z .state) .heuristic)) →
           keyAt (inHand job (z .state) .w1) (heuristic job 0) (z .state .vertices) (choice job m a (z .state) .vertex) ≡ m →
@@ -69,14 +66,14 @@ module _ (job : Job) (v : Valid job)
           subst (λ (i : ℕ). keyAt (inHand job (z .state) .w1) (heuristic job i) (z .state .vertices) (choice job m a (z .state) .vertex) ≡ m) (sym e) k
 
   pub lawful : (t : Moment) → List·Memᴰ t (moments job n (begin job)) → Lawful job t
-  lawful t q = every job (Good job) (steady job v traces) (Lawful job) lawful-at n t (begin job) (begin-good job v traces) q
+  lawful t q = every job (Good job) (steady job v) (Lawful job) lawful-at n t (begin job) (begin-good job v) q
 
   -- ---- at no route, exactly the vertices that a walk leads to are reached
 
   pub no-route-reached : run job n (begin job) .step ≡ Stuck → (x : ℕ) →
       (at (run job n (begin job) .state .vertices) x .g < unreached) ↔ ((k : ℕ) × (r : List ℕ) × Walk (job .edges) (job .start) x r k)
   no-route-reached e x =
-      let y : Good job (run job n (begin job)) = run-good job v traces n (begin job) (begin-good job v traces) in
+      let y : Good job (run job n (begin job)) = run-good job v n (begin job) (begin-good job v) in
       let g = between job v (y .ok .reach) .ground in
       let idle : Says job Stuck (run job n (begin job) .state) = subst (λ (t : Step). Says job t (run job n (begin job) .state)) e (y .says) in
       (reached-walk job v _ g x, λ p. walk-reached job v _ g (idle .1) (p .2))

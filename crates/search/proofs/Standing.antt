@@ -28,6 +28,7 @@ use Rattle.search.proofs.Legal
 use Rattle.search.proofs.Legal.{AnchorLeads, Going, Legal, Reachable, Between, between, least-bound, round-bound}
 use Rattle.search.proofs.Rule.{StepView, at-stuck, at-finished, at-due, step-view, choice-legal}
 use Rattle.search.proofs.Runs.{Going-on, over, due, going-on, advance-due, run-due, run-over, moments-due, moments-over}
+use Rattle.search.proofs.Trace.{traced-walk}
 use Rattle.search.proofs.Incumbent.{Bounds, Kept, kept-end}
 
 -- of a state between turns
@@ -74,8 +75,11 @@ settle-same job (suc n) s e = by (step job s) e
     by Finished h = absurd (unfold endRound ended in (omega (arith, settle-rises job n (endRound job s))))
     by (Due m a) h = refl
 
-module _ (job : Job) (v : Valid job)
-    (traces : (s : State) → Ground job (s .vertices) → at (s .vertices) (job .goal) .g < unreached → TracedWalk job s) where
+module _ (job : Job) (v : Valid job) where
+  -- the trace from a reached goal is a walk
+  traces : (s : State) → Ground job (s .vertices) → at (s .vertices) (job .goal) .g < unreached → TracedWalk job s
+  traces s g r = traced-walk job v s (g .sized) (λ u. g .sound .tidy u .le) (g .backs (job .goal) r .way) r
+
   in-range : (s : State) → s .progress .rounds < length (job .schedule) → InRange (inHand job s .w1) (inHand job s .w2)
   unfolding inHand
   in-range s h = v .range (s .progress .rounds) h
@@ -223,17 +227,16 @@ left-new {i} {s} {st} (self e f) =
     rw f (record { anchor = or-left (isAnchor i) (at st s .anchor); guide = or-left (not (isAnchor i)) (at st s .inad); noted = le-refl _ })
 left-new (other n m) = absurd (n refl)
 
-module _ (job : Job) (v : Valid job)
-    (traces : (s : State) → Ground job (s .vertices) → at (s .vertices) (job .goal) .g < unreached → TracedWalk job s) where
+module _ (job : Job) (v : Valid job) where
   pub steady : Steady job (Good job)
   steady =
       record {
-        next = advance-good job v traces;
-        free = free job v traces;
-        rises = rises job v traces;
+        next = advance-good job v;
+        free = free job v;
+        rises = rises job v;
         keeps = λ z m a y e k x i c l.
-            left-stays (between job v (y .ok .reach) .ground .sound .tidy _ .le) (steps job v traces z m a y e k x) i c l;
-        leaves = λ z m a y e k. left-new (steps job v traces z m a y e k _);
+            left-stays (between job v (y .ok .reach) .ground .sound .tidy _ .le) (steps job v z m a y e k x) i c l;
+        leaves = λ z m a y e k. left-new (steps job v z m a y e k _);
         scheduled = λ z m a y e. says-due y e .0;
       }
 
@@ -241,7 +244,7 @@ module _ (job : Job) (v : Valid job)
 
   run-by : (n : ℕ) (z : Stand) → Good job z → ((y : Stand) → Good job y → Good job (run job n y)) → Going-on z → Good job (run job (suc n) z)
   run-by n z y ih (over _ f) = rw (run-over job z f (suc n)) y
-  run-by n z y ih (due _ m a e) = rw (run-due job n z m a e) (ih (advance job z) (advance-good job v traces z m a y e))
+  run-by n z y ih (due _ m a e) = rw (run-due job n z m a e) (ih (advance job z) (advance-good job v z m a y e))
 
   pub run-good : (n : ℕ) (z : Stand) → Good job z → Good job (run job n z)
   unfolding run
@@ -253,7 +256,7 @@ module _ (job : Job) (v : Valid job)
       z .state .progress .rounds ≤ run job (suc n) z .state .progress .rounds
   rise-by n z y ih (over _ f) = rw (run-over job z f (suc n)) (le-refl _)
   rise-by n z y ih (due _ m a e) =
-      rw (run-due job n z m a e) (le-trans (rises job v traces z m a y e) (ih (advance job z) (advance-good job v traces z m a y e)))
+      rw (run-due job n z m a e) (le-trans (rises job v z m a y e) (ih (advance job z) (advance-good job v z m a y e)))
 
   pub run-rises : (n : ℕ) (z : Stand) → Good job z → z .state .progress .rounds ≤ run job n z .state .progress .rounds
   unfolding run
@@ -280,7 +283,7 @@ module _ (job : Job) (v : Valid job)
   rounds-suc n z t y ih (over _ f) q = absurd (List·Memᴰ·not-nil (rw (moments-over job z f (suc (suc n))) at q))
   rounds-suc n z t y ih (due _ m a e) q =
       head-or-tail (suc n) (run job (suc n) z .state .progress .rounds) z t m a e (run-rises (suc n) z y)
-      (λ k. rw (run-due job n z m a e) (ih (advance job z) (advance-good job v traces z m a y e) k)) q
+      (λ k. rw (run-due job n z m a e) (ih (advance job z) (advance-good job v z m a y e) k)) q
 
   pub rounds-by :
       (n : ℕ) (t : Moment) (z : Stand) → Good job z → List·Memᴰ t (moments job (suc n) z) → roundOf t ≤ run job n z .state .progress .rounds
