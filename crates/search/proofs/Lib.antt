@@ -12,3 +12,5 @@ pub mod Route
 pub mod Pigeon
 pub mod Trace
 pub mod Words
+pub mod Twice
+pub mod Counting
