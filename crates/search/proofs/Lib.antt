@@ -18,4 +18,6 @@ pub mod Route
 pub mod Pigeon
 pub mod Trace
 pub mod Words
+pub mod Twice
+pub mod Counting
 pub mod Guarantee
