@@ -26,6 +26,8 @@ use Rattle.search.proofs.Facts.{Valid, Steady}
 use Rattle.search.proofs.Legal.{Between, between, no-walk, goal-unreached}
 use Rattle.search.proofs.Runs.{run-suc, linked, moments-within, moments-more, moments-full, counts, begin-expansions, stuck≢due, finished≢due}
 use Rattle.search.proofs.Incumbent
+use Rattle.search.proofs.Twice.{each-twice, moments-inside, moments-scheduled}
+use Rattle.search.proofs.Counting.{few-in-round, few-in-all}
 use Rattle.search.proofs.Words.{route-words, log-words}
 use Rattle.search.proofs.Standing.{Good, Ok, Says, says-due, begin-good, run-good, steady, rounds-by}
 
@@ -59,13 +61,7 @@ ended job z = by (z .step) refl
         cond-ind (λ (x : Answer). Ended job z x) (eqb (z .state .progress .rounds) 0) (λ t. is-cut m a e (eqb-yes t))
         (λ t. is-part m a e (let n : z .state .progress .rounds ≡ 0 → ⊥ = eqb-no t in omega arith))
 
-module _ (job : Job) (v : Valid job)
-    (each-twice : (job : Job) (Good : Stand → Type 0) → Steady job Good → (n : ℕ) (z : Stand) → Good z → EachTwo Twice (moments job n z))
-    (moments-inside : (job : Job) (Good : Stand → Type 0) → Steady job Good → (n : ℕ) (z : Stand) → Good z → (t : Moment) → List·Memᴰ t (moments job n z) → t .choice .vertex < job .size)
-    (moments-scheduled : (job : Job) (Good : Stand → Type 0) → Steady job Good → (n : ℕ) (z : Stand) → Good z → (t : Moment) → List·Memᴰ t (moments job n z) → roundOf t < length (job .schedule))
-    (few-in-round : (v : ℕ) (ts : List Moment) → EachTwo Twice ts → ((t : Moment) → List·Memᴰ t ts → t .choice .vertex < v) → (r : ℕ) → length (inRound r ts) ≤ 2 * v)
-    (few-in-all : (v k : ℕ) (ts : List Moment) → ((r : ℕ) → length (inRound r ts) ≤ 2 * v) → ((t : Moment) → List·Memᴰ t ts → roundOf t < k) → length ts ≤ 2 * v * k)
-    (budget : ℕ) where
+module _ (job : Job) (v : Valid job) (budget : ℕ) where
   abbrev z : Stand
   z = run job budget (begin job)
 
