@@ -8,3 +8,16 @@ pub mod Least
 pub mod Reached
 pub mod Back
 pub mod Ground
+pub mod Legal
+pub mod Rule
+pub mod Runs
+pub mod Incumbent
+pub mod Standing
+pub mod Lawful
+pub mod Route
+pub mod Pigeon
+pub mod Trace
+pub mod Words
+pub mod Twice
+pub mod Counting
+pub mod Guarantee
