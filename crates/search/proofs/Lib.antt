@@ -14,3 +14,5 @@ pub mod Trace
 pub mod Words
 pub mod Twice
 pub mod Counting
+pub mod Admitted
+pub mod Anchor
