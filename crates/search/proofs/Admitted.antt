@@ -4,22 +4,22 @@ use mathlib.Core.Path.{_≡_, refl, sym, ap, _∙_}
 use mathlib.Core.Bool.{Bool, true, false, cond, not, _&&_, _||_}
 use mathlib.Core.List.{List, [], _∷_, List·Memᴰ, List·Memᴰ·head, List·Memᴰ·tail}
 use Prim.Native.Nat.{ℕ, zero, suc, _+_, _*_, _%_, _≤_, _<_}
-use native.Mathlib.Nat.{not-suc-le-zero, le-of-suc-le-suc, zero-lt-suc, lt-irrefl}
+use native.Mathlib.Nat.{not-suc-le-zero, le-of-suc-le-suc, zero-lt-suc}
 use native.Mathlib.Omega.{arith}
 use lib.ListN.{length, getD}
-use lib.Dec.{T, ltb, eqb, ltb→lt, nltb→le}
-use borrow.Author.Tests.{ltb-false}
+use lib.Dec.{T, ltb, eqb}
+use borrow.Author.Tests.{ltb-false, lt-ltb, le-ltb, eq-eqb}
 use mir.Facts.{and-yes, or-no, T-not-not, ltb-yes, ltb-no, eqb-yes}
 use Rattle.graph.specs.declared.Edge.{Edge}
-use Rattle.graph.specs.Limits.{maxVertices, maxCost}
 use Rattle.graph.specs.Plan.{Decoded, accepted, refused, decode}
 use Rattle.graph.specs.Lists.{Fault, none, fault}
-use Rattle.graph.specs.OneForm.{Single, done, more, Within}
+use Rattle.graph.specs.OneForm.{Single, more, Within}
 use Rattle.graph.proofs.Plan.{fault≢none}
 use Rattle.graph.proofs.Within.{accepted-within}
 use Rattle.search.specs.declared.Factors.{Factors}
 use Rattle.search.specs.Job.{Job, heuristic, factors, house, unreached}
 use Rattle.search.specs.Call.{Call, inForce, outOfRange, rising, pairs, row, first, endsRow, tablesRow, scheduleRow, memoryRow, goalRow, edgesRow, faultIn, faultOf, jobIn, jobFrom, jobOf}
+use Rattle.search.proofs.Tools.{T-false}
 use Rattle.search.proofs.Facts.{OneCost, InRange, Valid}
 
 -- ---- rows
@@ -158,6 +158,47 @@ clear c v es h =
       goal-zero = eqb-yes (T-not-not (eqb (getD (c .anchor) (c .goal) 0) 0) (row-none _ 12 0 (r12 .0)));
       rule = rule-of (c .anchor) 0 es (r13 .0);
     }
+
+-- and the other way round: the rows refuse nothing else
+
+none-edges : (h : List ℕ) (i : ℕ) (es : List Edge) → ((e : Edge) → List·Memᴰ e es → getD h (e .tail) 0 ≤ e .cost + getD h (e .head) 0)
+    → edgesRow h i es ≡ none
+unfolding edgesRow
+none-edges h i [] f = refl
+none-edges h i (e ∷ es) f =
+    rw (le-ltb (e .cost + getD h (e .head) 0) (getD h (e .tail) 0) (f e (List·Memᴰ·head refl)))
+    (none-edges h (suc i) es (λ d m. f d (List·Memᴰ·tail m)))
+
+module _ (c : Call) (v : ℕ) (es : List Edge) (y : Clear c v es) where
+  abbrev ws : List ℕ
+  ws = inForce house (c .schedule)
+
+  none-ends : endsRow c v ≡ none
+  unfolding endsRow row
+  none-ends = rw (lt-ltb (c .start) v (y .starts), lt-ltb (c .goal) v (y .ends))
+
+  none-tables : tablesRow c v ≡ none
+  unfolding tablesRow row
+  none-tables =
+      rw (le-ltb 8 (c .count) (y .few), eq-eqb (length (c .anchor)) v (y .anchored), eq-eqb (length (c .sheets)) (c .count * v) (y .guided))
+
+  none-schedule : scheduleRow ws ≡ none
+  unfolding scheduleRow row
+  none-schedule =
+      rw (le-ltb 32 (length ws) (y .short), T-false (eqb (length ws % 2) 1) (y .even), T-false (outOfRange ws) (y .range), T-false (rising ws) (y .falls))
+
+  none-memory : memoryRow c v (length es) ≡ none
+  unfolding memoryRow row
+  none-memory =
+      rw (le-ltb (length (c .memory .route)) v (y .route-room), le-ltb (length (c .memory .work)) (5 * v + 1 + 2 * length es) (y .work-room))
+
+  none-goal : goalRow c ≡ none
+  unfolding goalRow row
+  none-goal = rw (eq-eqb (getD (c .anchor) (c .goal) 0) 0 (y .goal-zero))
+
+  pub clear-none : faultIn c (accepted v es) ≡ none
+  unfolding faultIn first
+  clear-none = rw (none-ends, none-tables, none-schedule, none-memory, none-goal, none-edges (c .anchor) 0 es (y .rule))
 
 -- ---- admitted is valid
 
