@@ -137,8 +137,8 @@ clear c v es h =
     let ends = and-yes (ltb (c .start) v) (ltb (c .goal) v) (T-not-not (ltb (c .start) v && ltb (c .goal) v) (row-none _ 8 0 (r8 .0))) in
     let tables = or-no (ltb 8 (c .count)) _ (row-none _ 9 0 (r9 .0)) in
     let sized =
-        and-yes (eqb (length (c .anchor)) v) (eqb (length (c .sheets)) (c .count * v))
-        (T-not-not (eqb (length (c .anchor)) v && eqb (length (c .sheets)) (c .count * v)) (tables .1)) in
+    and-yes (eqb (length (c .anchor)) v) (eqb (length (c .sheets)) (c .count * v))
+    (T-not-not (eqb (length (c .anchor)) v && eqb (length (c .sheets)) (c .count * v)) (tables .1)) in
     let falls = or-no (ltb 32 (length ws) || eqb (length ws % 2) 1 || outOfRange ws) (rising ws) (row-none _ 10 0 (r10 .0)) in
     let range = or-no (ltb 32 (length ws) || eqb (length ws % 2) 1) (outOfRange ws) (falls .0) in
     let even = or-no (ltb 32 (length ws)) (eqb (length ws % 2) 1) (range .0) in
