@@ -13,7 +13,7 @@ use Rattle.search.specs.declared.Step.the-variants.{Stuck, Finished, Due
 use Rattle.search.specs.Job.{Job, at}
 use Rattle.search.specs.Turn.{isAnchor}
 use Rattle.search.specs.Rounds.{Stand, Moment, choice, onDue, advance, moments}
-use Rattle.search.specs.Guarantee.{roundOf, gOf, EachTwo, no-turn, one-more, Again, Twice}
+use Rattle.search.specs.Guarantee.{roundOf, gOf, EachTwo, no-turn, one-more, Twice}
 use Rattle.search.proofs.Tools.{bool-cases, T-true, T-false}
 use Rattle.search.proofs.Facts.{Left, Free, Steady}
 
