@@ -1,0 +1,668 @@
+//! Seeded jobs for the planner: tiny graphs, ladders, grids, zero costs,
+//! self-edges, hostile and constant sheets, budgets around the ends of
+//! rounds, start = goal, no walk to the goal, and jobs damaged for each
+//! refusal. Also running a job in guarded memory and counting rare events.
+
+use crate::dijkstra;
+use crate::generate::{self, Plan};
+use crate::planner::{self, Answer, Event};
+use crate::random::Random;
+
+/// A planner call with the lengths of its lent memory.
+#[derive(Clone, Debug)]
+pub struct Job {
+    pub bytes: Vec<u8>,
+    pub start: u32,
+    pub goal: u32,
+    pub anchor: Vec<u32>,
+    pub guides: Vec<u32>,
+    pub guide_count: u32,
+    pub schedule: Vec<u32>,
+    pub budget: u32,
+    pub route_room: usize,
+    pub log_room: usize,
+    pub work_room: usize,
+}
+
+/// A call's answer and its whole lent memory, guards included.
+#[derive(Clone, Debug, PartialEq, Eq)]
+pub struct Outcome {
+    pub answer: Answer,
+    pub route: Vec<u32>,
+    pub log: Vec<u32>,
+    pub work: Vec<u32>,
+}
+
+/// Words of a known pattern before and after lent memory.
+pub const GUARD: usize = 8;
+
+/// A word that lent memory holds before a call, guards included; `memory` is
+/// 0 for route, 1 for log and 2 for work memory.
+pub fn pattern(salt: u64, memory: u32, index: usize) -> u32 {
+    (salt as u32)
+        .wrapping_mul(0x9E37_79B9)
+        .wrapping_add(memory.wrapping_mul(0x5851_F42D))
+        .wrapping_add((index as u32).wrapping_mul(0x0101_0107))
+}
+
+/// A planner call under comparison, as the arguments of [`planner::plan`].
+pub trait Planner {
+    fn plan(&self, job: &Job, route: &mut [u32], log: &mut [u32], work: &mut [u32]) -> Answer;
+}
+
+/// The second planner.
+pub struct SecondPlanner;
+
+impl Planner for SecondPlanner {
+    fn plan(&self, job: &Job, route: &mut [u32], log: &mut [u32], work: &mut [u32]) -> Answer {
+        job.observed(route, log, work, &mut |_| ())
+    }
+}
+
+impl Job {
+    /// A job on a valid plan with full room.
+    #[allow(clippy::too_many_arguments)]
+    pub fn new(
+        plan: &Plan,
+        start: u32,
+        goal: u32,
+        anchor: Vec<u32>,
+        guides: Vec<u32>,
+        guide_count: u32,
+        schedule: Vec<u32>,
+        budget: u32,
+    ) -> Job {
+        let vertices = plan.vertices as usize;
+        Job {
+            bytes: plan.bytes(),
+            start,
+            goal,
+            anchor,
+            guides,
+            guide_count,
+            schedule,
+            budget,
+            route_room: vertices,
+            log_room: 64,
+            work_room: 5 * vertices + 1 + 2 * plan.edges(),
+        }
+    }
+
+    /// The second planner's call with its events.
+    pub fn observed(
+        &self,
+        route: &mut [u32],
+        log: &mut [u32],
+        work: &mut [u32],
+        observe: &mut dyn FnMut(Event),
+    ) -> Answer {
+        planner::plan_observed(
+            &self.bytes,
+            self.start,
+            self.goal,
+            &self.anchor,
+            &self.guides,
+            self.guide_count,
+            &self.schedule,
+            self.budget,
+            route,
+            log,
+            work,
+            observe,
+        )
+    }
+
+    /// The second planner's answer and events, memory left aside.
+    pub fn events(&self) -> (Answer, Vec<Event>) {
+        let mut events = Vec::new();
+        let answer = self.observed(
+            &mut vec![0; self.route_room],
+            &mut [],
+            &mut vec![0; self.work_room],
+            &mut |event| events.push(event),
+        );
+        (answer, events)
+    }
+
+    /// Runs the job in guarded memory filled with a pattern.
+    pub fn run(&self, planner: &dyn Planner, salt: u64) -> Outcome {
+        let memory = |number: u32, room: usize| -> Vec<u32> {
+            (0..room + 2 * GUARD)
+                .map(|index| pattern(salt, number, index))
+                .collect()
+        };
+        let mut route = memory(0, self.route_room);
+        let mut log = memory(1, self.log_room);
+        let mut work = memory(2, self.work_room);
+        let answer = planner.plan(
+            self,
+            &mut route[GUARD..GUARD + self.route_room],
+            &mut log[GUARD..GUARD + self.log_room],
+            &mut work[GUARD..GUARD + self.work_room],
+        );
+        Outcome {
+            answer,
+            route,
+            log,
+            work,
+        }
+    }
+
+    /// The job as the bench program's bytes.
+    pub fn bench_bytes(&self) -> Vec<u8> {
+        let mut bytes = Vec::new();
+        generate::push_number(&mut bytes, self.bytes.len() as u32);
+        bytes.extend(&self.bytes);
+        let rounds = self.schedule.len() as u32 / 2;
+        for number in [self.start, self.goal, self.budget, rounds] {
+            generate::push_number(&mut bytes, number);
+        }
+        for &factor in &self.schedule {
+            generate::push_number(&mut bytes, factor);
+        }
+        generate::push_number(&mut bytes, self.guide_count);
+        for &number in self.anchor.iter().chain(&self.guides) {
+            generate::push_number(&mut bytes, number);
+        }
+        bytes
+    }
+}
+
+/// A schedule that does not rise.
+pub fn random_schedule(random: &mut Random) -> Vec<u32> {
+    match random.below(12) {
+        0 => return Vec::new(),
+        1 => return vec![100, 100],
+        2 => return planner::HOUSE_SCHEDULE.to_vec(),
+        _ => {}
+    }
+    let rounds = match random.below(10) {
+        0 => 16,
+        1 => random.index(17),
+        _ => random.range(1, 4) as usize,
+    };
+    let most = random.pick(&[100, 130, 200, 300, 500, 1_000, 10_000]);
+    let mut factors = [Vec::new(), Vec::new()];
+    for list in &mut factors {
+        *list = (0..rounds).map(|_| random.range32(100, most)).collect();
+        if random.one_in(6) {
+            list.fill(random.range32(100, most));
+        }
+        list.sort_unstable_by(|left, right| right.cmp(left));
+        if rounds > 0 && random.one_in(3) {
+            list[rounds - 1] = 100;
+        }
+    }
+    let [w1, w2] = factors;
+    w1.into_iter()
+        .zip(w2)
+        .flat_map(|(w1, w2)| [w1, w2])
+        .collect()
+}
+
+/// A table that passes refusals 12 and 13.
+pub fn random_anchor(random: &mut Random, plan: &Plan, goal: u32) -> Vec<u32> {
+    let vertices = plan.vertices as usize;
+    let most = random.pick(&[3, 20, 1_000, 1_000_000, u32::MAX]);
+    let mut wish: Vec<u32> = match random.below(5) {
+        0 => vec![0; vertices],
+        1 => (0..vertices).map(|_| random.range32(0, most)).collect(),
+        2 => vec![most; vertices],
+        _ => vec![u32::MAX; vertices],
+    };
+    wish[goal as usize] = 0;
+    let mut table = dijkstra::consistent_table(plan, &wish);
+    if random.one_in(4) {
+        // A part of the table keeps the rule.
+        let part = random.range(1, 99);
+        for number in &mut table {
+            *number = (u64::from(*number) * part / 100) as u32;
+        }
+    }
+    table
+}
+
+/// A guide sheet of any sort, hostile ones included.
+pub fn random_sheet(random: &mut Random, plan: &Plan, goal: u32, anchor: &[u32]) -> Vec<u32> {
+    let vertices = plan.vertices as usize;
+    let most = random.pick(&[1, 3, 20, 1_000, u32::MAX]);
+    match random.below(9) {
+        0 => vec![0; vertices],
+        1 => vec![most; vertices],
+        2 => anchor.to_vec(),
+        // Distances, and what is far comes first.
+        kind @ (3 | 4) => dijkstra::distances_to(plan, goal)
+            .into_iter()
+            .map(|distance| {
+                let distance = distance.map_or(u32::MAX, |distance| distance as u32);
+                if kind == 3 {
+                    distance
+                } else {
+                    (u32::MAX - distance) % 10_007
+                }
+            })
+            .collect(),
+        // Everything but one vertex is dear.
+        5 => {
+            let mut sheet = vec![most; vertices];
+            sheet[random.index(vertices)] = 0;
+            sheet
+        }
+        _ => (0..vertices).map(|_| random.range32(0, most)).collect(),
+    }
+}
+
+/// How edges get their costs.
+fn cost(random: &mut Random, kind: u64) -> u32 {
+    match kind {
+        0 => 0,
+        1 => u32::from(random.one_in(2)),
+        2 | 3 => random.range32(0, 9),
+        4 => random.range32(0, 100),
+        _ => generate::random_cost(random),
+    }
+}
+
+/// The shape of a graph.
+#[derive(Clone, Copy, Debug, PartialEq, Eq)]
+pub enum Shape {
+    /// Up to six vertices, any edges, self-edges too.
+    Tiny,
+    /// A path with shortcuts and edges back.
+    Ladder,
+    /// A grid with edges both ways.
+    Grid,
+    /// Up to 40 vertices and few edges: often no walk to the goal.
+    Sparse,
+    /// Up to 12 vertices and many edges.
+    Dense,
+}
+
+pub const SHAPES: [Shape; 5] = [
+    Shape::Tiny,
+    Shape::Ladder,
+    Shape::Grid,
+    Shape::Sparse,
+    Shape::Dense,
+];
+
+/// A plan of a shape.
+pub fn random_graph(random: &mut Random, shape: Shape) -> Plan {
+    let kind = random.below(7);
+    let mut pairs: Vec<(u32, u32)> = Vec::new();
+    let vertices = match shape {
+        Shape::Tiny => random.range32(1, 6),
+        Shape::Ladder => random.range32(3, 14),
+        Shape::Grid => random.range32(2, 5),
+        Shape::Sparse => random.range32(2, 40),
+        Shape::Dense => random.range32(4, 12),
+    };
+    let vertices = match shape {
+        Shape::Tiny | Shape::Sparse | Shape::Dense => {
+            let most = vertices * vertices;
+            let edges = match shape {
+                Shape::Sparse => random.range32(0, vertices + vertices / 2),
+                Shape::Dense => random.range32(most / 3, most),
+                _ => random.range32(0, most.min(14)),
+            };
+            for _ in 0..edges {
+                pairs.push((
+                    random.range32(0, vertices - 1),
+                    random.range32(0, vertices - 1),
+                ));
+            }
+            vertices
+        }
+        Shape::Ladder => {
+            for vertex in 0..vertices {
+                for step in 1..=random.range32(1, 3) {
+                    if vertex + step < vertices {
+                        pairs.push((vertex, vertex + step));
+                    }
+                }
+                if vertex > 0 && random.one_in(4) {
+                    pairs.push((vertex, random.range32(0, vertex)));
+                }
+            }
+            vertices
+        }
+        Shape::Grid => {
+            let (width, height) = (vertices, random.range32(2, 5));
+            for y in 0..height {
+                for x in 0..width {
+                    let here = y * width + x;
+                    let mut both = |there| {
+                        if !random.one_in(8) {
+                            pairs.push((here, there));
+                        }
+                        if !random.one_in(8) {
+                            pairs.push((there, here));
+                        }
+                    };
+                    if x + 1 < width {
+                        both(here + 1);
+                    }
+                    if y + 1 < height {
+                        both(here + width);
+                    }
+                }
+            }
+            width * height
+        }
+    };
+    // Numbers of vertices in any order, except sometimes on ladders.
+    if shape != Shape::Ladder || random.one_in(2) {
+        let mut numbers: Vec<u32> = (0..vertices).collect();
+        for index in (1..numbers.len()).rev() {
+            numbers.swap(index, random.index(index + 1));
+        }
+        for (tail, head) in &mut pairs {
+            *tail = numbers[*tail as usize];
+            *head = numbers[*head as usize];
+        }
+    }
+    pairs.sort_unstable();
+    pairs.dedup();
+    Plan {
+        vertices,
+        tails: pairs.iter().map(|pair| pair.0).collect(),
+        heads: pairs.iter().map(|pair| pair.1).collect(),
+        costs: pairs.iter().map(|_| cost(random, kind)).collect(),
+    }
+}
+
+/// A job on a plan that no refusal meets, with a large budget.
+pub fn job_on(random: &mut Random, plan: &Plan) -> Job {
+    let start = random.range32(0, plan.vertices - 1);
+    let goal = if random.one_in(12) {
+        start
+    } else {
+        random.range32(0, plan.vertices - 1)
+    };
+    let anchor = random_anchor(random, plan, goal);
+    let guide_count = match random.below(8) {
+        0 => 0,
+        1 => random.range32(0, 8),
+        _ => random.range32(1, 2),
+    };
+    let guides = (0..guide_count)
+        .flat_map(|_| random_sheet(random, plan, goal, &anchor))
+        .collect();
+    let schedule = random_schedule(random);
+    let mut job = Job::new(
+        plan,
+        start,
+        goal,
+        anchor,
+        guides,
+        guide_count,
+        schedule,
+        u32::MAX,
+    );
+    match random.below(4) {
+        0 => job.log_room = random.index(5),
+        1 => job.log_room = 0,
+        _ => {}
+    }
+    if random.one_in(3) {
+        job.route_room += random.index(4);
+        job.work_room += random.index(4);
+    }
+    job
+}
+
+/// A valid job of a shape; its plan comes along.
+pub fn random_job(random: &mut Random, shape: Shape) -> (Plan, Job) {
+    let plan = random_graph(random, shape);
+    let job = job_on(random, &plan);
+    (plan, job)
+}
+
+/// The turns after which rounds end, with a budget that never runs out.
+pub fn ends_of_rounds(job: &Job) -> Vec<u32> {
+    let mut job = job.clone();
+    job.budget = u32::MAX;
+    let (_, events) = job.events();
+    events
+        .into_iter()
+        .filter_map(|event| match event {
+            Event::Finish { turns, .. } | Event::NoRoute { turns, .. } => Some(turns),
+            _ => None,
+        })
+        .collect()
+}
+
+/// Valid jobs of all shapes: each with a budget that never runs out and with
+/// budgets at, before and after the ends of its rounds.
+pub fn valid_jobs(seed: u64, count: usize, sink: &mut dyn FnMut(&Plan, &Job)) {
+    let mut random = Random::new(seed);
+    for _ in 0..count {
+        let shape = random.pick(&SHAPES);
+        let (plan, mut job) = random_job(&mut random, shape);
+        sink(&plan, &job);
+        let mut budgets = Vec::new();
+        for end in ends_of_rounds(&job) {
+            budgets.extend([end.saturating_sub(1), end, end + 1]);
+        }
+        budgets.extend([0, 1]);
+        if let Some(&last) = budgets.iter().max() {
+            budgets.push(random.range32(0, last));
+        }
+        budgets.sort_unstable();
+        budgets.dedup();
+        if budgets.len() > 6 {
+            for _ in 0..budgets.len() - 6 {
+                budgets.remove(random.index(budgets.len()));
+            }
+        }
+        for budget in budgets {
+            job.budget = budget;
+            sink(&plan, &job);
+        }
+    }
+}
+
+/// Damages a valid job so that it gets refusal `number` (1 to 13); the
+/// position that its making decides. `None` if this job cannot be damaged so.
+pub fn damage_job(random: &mut Random, plan: &Plan, job: &mut Job, number: u32) -> Option<usize> {
+    let vertices = plan.vertices;
+    match number {
+        1..=7 => {
+            for _ in 0..200 {
+                let (bytes, figures, _) = generate::damage(random, plan);
+                if figures[0] == u64::from(number) {
+                    job.bytes = bytes;
+                    return Some(figures[1] as usize);
+                }
+            }
+            return None;
+        }
+        8 => {
+            let outside = if random.one_in(2) {
+                vertices
+            } else {
+                random.range32(vertices, u32::MAX)
+            };
+            if random.one_in(2) {
+                job.start = outside;
+            } else {
+                job.goal = outside;
+            }
+        }
+        9 => match random.below(6) {
+            0 => {
+                job.guide_count = 9;
+                job.guides = vec![0; 9 * vertices as usize];
+            }
+            1 => job.guide_count = random.range32(9, u32::MAX),
+            2 => job.anchor.push(0),
+            3 => drop(job.anchor.pop()),
+            4 => job.guides.push(0),
+            _ => {
+                if job.guides.pop().is_none() {
+                    job.guides.push(1);
+                }
+            }
+        },
+        10 => match random.below(6) {
+            0 => job.schedule = vec![100; 34],
+            1 => {
+                if job.schedule.pop().is_none() {
+                    job.schedule.push(100);
+                }
+            }
+            2 if !job.schedule.is_empty() => {
+                let index = random.index(job.schedule.len());
+                job.schedule[index] = random.pick(&[0, 1, 99, 10_001, 20_000, u32::MAX]);
+            }
+            3 => job.schedule = vec![200, 200, 200, 201],
+            4 => job.schedule = vec![200, 200, 201, 200],
+            _ => job.schedule = vec![300, 300, 100, 100, 101, 100],
+        },
+        11 => {
+            if random.one_in(2) {
+                job.route_room = random.index(vertices as usize);
+            } else {
+                let needed = 5 * vertices as usize + 1 + 2 * plan.edges();
+                job.work_room = if random.one_in(2) {
+                    needed - 1
+                } else {
+                    random.index(needed)
+                };
+            }
+        }
+        12 => job.anchor[job.goal as usize] = random.pick(&[1, 2, 500, u32::MAX]),
+        13 => {
+            // Raise the table at one tail past the rule of one of its edges.
+            let breakable: Vec<usize> = (0..plan.edges())
+                .filter(|&edge| {
+                    let (tail, head) = (plan.tails[edge], plan.heads[edge]);
+                    let least =
+                        u64::from(plan.costs[edge]) + u64::from(job.anchor[head as usize]) + 1;
+                    tail != head && tail != job.goal && least <= u64::from(u32::MAX)
+                })
+                .collect();
+            if breakable.is_empty() {
+                return None;
+            }
+            let edge = random.pick(&breakable);
+            let (tail, head) = (plan.tails[edge] as usize, plan.heads[edge] as usize);
+            let least = plan.costs[edge] + job.anchor[head] + 1;
+            job.anchor[tail] = if random.one_in(2) {
+                least
+            } else {
+                random.range32(least, u32::MAX)
+            };
+            // The first broken edge counts.
+            let first = (0..plan.edges()).find(|&edge| {
+                let (tail, head) = (plan.tails[edge] as usize, plan.heads[edge] as usize);
+                u64::from(job.anchor[tail])
+                    > u64::from(plan.costs[edge]) + u64::from(job.anchor[head])
+            });
+            return first;
+        }
+        _ => return None,
+    }
+    Some(0)
+}
+
+/// Jobs damaged for one refusal each, and sometimes for a later one as well,
+/// which must not count.
+pub fn damaged_jobs(seed: u64, count: usize, sink: &mut dyn FnMut(&Job, Answer)) {
+    let mut random = Random::new(seed);
+    for index in 0..count {
+        let number = index as u32 % 13 + 1;
+        let shape = random.pick(&SHAPES);
+        let (plan, mut job) = random_job(&mut random, shape);
+        // A later fault is done first and must not count.
+        if number < 12 && random.one_in(3) {
+            let later = random.range32(number.max(7) + 1, 12);
+            damage_job(&mut random, &plan, &mut job, later);
+        }
+        let Some(position) = damage_job(&mut random, &plan, &mut job, number) else {
+            continue;
+        };
+        sink(&job, Answer::Refused { number, position });
+    }
+}
+
+/// A fault of form in a bench job's bytes: each gets refusal 14 at 0, if no
+/// earlier row of the table counts.
+pub fn damage_bench(random: &mut Random, plan: &Plan, job: &Job) -> Vec<u8> {
+    let mut bytes = job.bench_bytes();
+    let head = {
+        let mut length = Vec::new();
+        generate::push_number(&mut length, job.bytes.len() as u32);
+        length.len() + job.bytes.len()
+    };
+    match random.below(9) {
+        // The bytes end early, anywhere.
+        0 => bytes.truncate(random.index(bytes.len())),
+        // Bytes left over.
+        1 => bytes.push(random.byte()),
+        // A number after the plan that is not shortest.
+        2 => {
+            let ends: Vec<usize> = (head..bytes.len()).filter(|&at| bytes[at] < 128).collect();
+            let at = random.pick(&ends);
+            bytes[at] += 128;
+            bytes.insert(at + 1, 0);
+        }
+        // The plan's length is not shortest, or too large.
+        3 => {
+            bytes.drain(..head - job.bytes.len());
+            let mut length = Vec::new();
+            if random.one_in(2) {
+                let least = bytes.len() as u32 + 1;
+                let value = random.range32(least, u32::MAX);
+                generate::push_number(&mut length, value);
+            } else {
+                generate::push_number(&mut length, job.bytes.len() as u32);
+                *length.last_mut().unwrap() += 128;
+                length.push(0);
+            }
+            bytes.splice(0..0, length);
+        }
+        // Too many rounds or guides.
+        4 => {
+            let mut other = job.clone();
+            if random.one_in(2) {
+                other.schedule = vec![100; 34];
+            } else {
+                other.guide_count = random.range32(9, 20);
+                other.guides = vec![0; (other.guide_count * plan.vertices) as usize];
+            }
+            bytes = other.bench_bytes();
+        }
+        // A number over 32 bits or of six groups.
+        5 | 6 => {
+            let mut other = job.clone();
+            other.budget = u32::MAX;
+            bytes = other.bench_bytes();
+            let most = [0xFF, 0xFF, 0xFF, 0xFF, 0x0F];
+            let at = (head..bytes.len())
+                .find(|&at| bytes[at..].starts_with(&most))
+                .expect("the budget stands after the plan");
+            if random.one_in(2) {
+                bytes[at + 4] += 0x10 << random.below(3);
+            } else {
+                bytes[at + 4] += 128;
+                bytes.insert(at + 5, random.range(0, 1) as u8);
+            }
+        }
+        // Over 32,768 bytes.
+        7 => bytes.resize(planner::MOST_JOB_BYTES + 1 + random.index(3), 0),
+        // Too many vertices or edges.
+        _ => {
+            let vertices = random.pick(&[257, 300, 4_096]);
+            let edges = if random.one_in(2) { 5 } else { 2_049 };
+            let plan = if random.one_in(2) {
+                generate::random_plan(random, vertices, edges)
+            } else {
+                generate::random_plan(random, 256, 2_049)
+            };
+            let anchor = vec![0; plan.vertices as usize];
+            bytes = Job::new(&plan, 0, 0, anchor, vec![], 0, vec![], 9).bench_bytes();
+        }
+    }
+    bytes
+}
