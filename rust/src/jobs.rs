@@ -418,6 +418,87 @@ pub fn random_job(random: &mut Random, shape: Shape) -> (Plan, Job) {
     (plan, job)
 }
 
+/// A job whose guides lead astray, so that vertices are expanded at costs
+/// that fall later: a few vertices, edges mostly one after another, sheets of
+/// small numbers, and factors that come down over a few rounds.
+pub fn twisted_job(random: &mut Random) -> (Plan, Job) {
+    let vertices = random.range32(4, 9);
+    let (start, goal) = (0, vertices - 1);
+    let most_cost = random.pick(&[3, 10, 30]);
+    let mut pairs: Vec<(u32, u32, u32)> = Vec::new();
+    for tail in 0..vertices {
+        for head in 0..vertices {
+            let wanted = match (tail, head) {
+                _ if tail == head => random.one_in(20),
+                _ if head == tail + 1 => !random.one_in(8),
+                _ if tail == start && head == goal => random.one_in(6),
+                _ if tail < head => random.one_in(2),
+                _ => random.one_in(5),
+            };
+            if wanted {
+                // A longer step costs more, often more than it saves.
+                let step = tail.abs_diff(head);
+                let cost = random.range32(0, most_cost) + step * random.range32(0, most_cost);
+                pairs.push((tail, head, cost));
+            }
+        }
+    }
+    let mut numbers: Vec<u32> = (0..vertices).collect();
+    if random.one_in(2) {
+        for index in (1..numbers.len()).rev() {
+            numbers.swap(index, random.index(index + 1));
+        }
+    }
+    for (tail, head, _) in &mut pairs {
+        *tail = numbers[*tail as usize];
+        *head = numbers[*head as usize];
+    }
+    pairs.sort_unstable();
+    let plan = Plan {
+        vertices,
+        tails: pairs.iter().map(|edge| edge.0).collect(),
+        heads: pairs.iter().map(|edge| edge.1).collect(),
+        costs: pairs.iter().map(|edge| edge.2).collect(),
+    };
+    let (start, goal) = (numbers[start as usize], numbers[goal as usize]);
+    let mut anchor = dijkstra::consistent_table(
+        &plan,
+        &(0..vertices)
+            .map(|vertex| if vertex == goal { 0 } else { 4_000_000 })
+            .collect::<Vec<u32>>(),
+    );
+    let part = random.pick(&[0, 30, 60, 100]);
+    for number in &mut anchor {
+        *number = *number * part / 100;
+    }
+    let guide_count = random.range32(1, 3);
+    let most = random.pick(&[0, 5, 20, 60]);
+    let guides = (0..guide_count * vertices)
+        .map(|_| random.range32(0, most))
+        .collect();
+    let rounds = random.range(1, 5) as usize;
+    let most = random.pick(&[200, 400, 1_000]);
+    let mut factors: [Vec<u32>; 2] = Default::default();
+    for list in &mut factors {
+        *list = (0..rounds).map(|_| random.range32(100, most)).collect();
+        list.sort_unstable_by(|left, right| right.cmp(left));
+    }
+    let [w1, w2] = factors;
+    let schedule = w1.into_iter().zip(w2).flat_map(|(w1, w2)| [w1, w2]);
+    let schedule = schedule.collect();
+    let job = Job::new(
+        &plan,
+        start,
+        goal,
+        anchor,
+        guides,
+        guide_count,
+        schedule,
+        u32::MAX,
+    );
+    (plan, job)
+}
+
 /// The turns after which rounds end, with a budget that never runs out.
 pub fn ends_of_rounds(job: &Job) -> Vec<u32> {
     let mut job = job.clone();
@@ -437,8 +518,12 @@ pub fn ends_of_rounds(job: &Job) -> Vec<u32> {
 pub fn valid_jobs(seed: u64, count: usize, sink: &mut dyn FnMut(&Plan, &Job)) {
     let mut random = Random::new(seed);
     for _ in 0..count {
-        let shape = random.pick(&SHAPES);
-        let (plan, mut job) = random_job(&mut random, shape);
+        let (plan, mut job) = if random.one_in(2) {
+            twisted_job(&mut random)
+        } else {
+            let shape = random.pick(&SHAPES);
+            random_job(&mut random, shape)
+        };
         sink(&plan, &job);
         let mut budgets = Vec::new();
         for end in ends_of_rounds(&job) {
