@@ -3,6 +3,8 @@
 //! rounds, start = goal, no walk to the goal, and jobs damaged for each
 //! refusal. Also running a job in guarded memory and counting rare events.
 
+use std::collections::BTreeMap;
+
 use crate::dijkstra;
 use crate::generate::{self, Plan};
 use crate::planner::{self, Answer, Event};
@@ -418,14 +420,48 @@ pub fn random_job(random: &mut Random, shape: Shape) -> (Plan, Job) {
     (plan, job)
 }
 
-/// A job whose guides lead astray, so that vertices are expanded at costs
-/// that fall later: a few vertices, edges mostly one after another, sheets of
-/// small numbers, and factors that come down over a few rounds.
+/// Two lists of `rounds` factors from 100 to `most` that do not rise.
+fn falling_factors(random: &mut Random, rounds: usize, most: [u32; 2]) -> Vec<u32> {
+    let mut lists =
+        most.map(|most| -> Vec<u32> { (0..rounds).map(|_| random.range32(100, most)).collect() });
+    for list in &mut lists {
+        list.sort_unstable_by(|left, right| right.cmp(left));
+    }
+    (0..2 * rounds)
+        .map(|index| lists[index % 2][index / 2])
+        .collect()
+}
+
+/// A plan from edges (tail, head, cost), of each pair the last, with the
+/// vertices renumbered at random; gives the new numbers too.
+fn renumbered(random: &mut Random, vertices: u32, edges: &[(u32, u32, u32)]) -> (Plan, Vec<u32>) {
+    let mut numbers: Vec<u32> = (0..vertices).collect();
+    if random.one_in(2) {
+        for index in (1..numbers.len()).rev() {
+            numbers.swap(index, random.index(index + 1));
+        }
+    }
+    let edges: BTreeMap<(u32, u32), u32> = edges
+        .iter()
+        .map(|&(tail, head, cost)| ((numbers[tail as usize], numbers[head as usize]), cost))
+        .collect();
+    let plan = Plan {
+        vertices,
+        tails: edges.keys().map(|pair| pair.0).collect(),
+        heads: edges.keys().map(|pair| pair.1).collect(),
+        costs: edges.values().copied().collect(),
+    };
+    (plan, numbers)
+}
+
+/// A job whose guides lead astray: a few vertices, edges mostly one after
+/// another, sheets of small numbers, factors that come down over a few
+/// rounds.
 pub fn twisted_job(random: &mut Random) -> (Plan, Job) {
     let vertices = random.range32(4, 9);
     let (start, goal) = (0, vertices - 1);
     let most_cost = random.pick(&[3, 10, 30]);
-    let mut pairs: Vec<(u32, u32, u32)> = Vec::new();
+    let mut edges = Vec::new();
     for tail in 0..vertices {
         for head in 0..vertices {
             let wanted = match (tail, head) {
@@ -439,34 +475,15 @@ pub fn twisted_job(random: &mut Random) -> (Plan, Job) {
                 // A longer step costs more, often more than it saves.
                 let step = tail.abs_diff(head);
                 let cost = random.range32(0, most_cost) + step * random.range32(0, most_cost);
-                pairs.push((tail, head, cost));
+                edges.push((tail, head, cost));
             }
         }
     }
-    let mut numbers: Vec<u32> = (0..vertices).collect();
-    if random.one_in(2) {
-        for index in (1..numbers.len()).rev() {
-            numbers.swap(index, random.index(index + 1));
-        }
-    }
-    for (tail, head, _) in &mut pairs {
-        *tail = numbers[*tail as usize];
-        *head = numbers[*head as usize];
-    }
-    pairs.sort_unstable();
-    let plan = Plan {
-        vertices,
-        tails: pairs.iter().map(|edge| edge.0).collect(),
-        heads: pairs.iter().map(|edge| edge.1).collect(),
-        costs: pairs.iter().map(|edge| edge.2).collect(),
-    };
+    let (plan, numbers) = renumbered(random, vertices, &edges);
     let (start, goal) = (numbers[start as usize], numbers[goal as usize]);
-    let mut anchor = dijkstra::consistent_table(
-        &plan,
-        &(0..vertices)
-            .map(|vertex| if vertex == goal { 0 } else { 4_000_000 })
-            .collect::<Vec<u32>>(),
-    );
+    let mut wish = vec![4_000_000; vertices as usize];
+    wish[goal as usize] = 0;
+    let mut anchor = dijkstra::consistent_table(&plan, &wish);
     let part = random.pick(&[0, 30, 60, 100]);
     for number in &mut anchor {
         *number = *number * part / 100;
@@ -478,14 +495,146 @@ pub fn twisted_job(random: &mut Random) -> (Plan, Job) {
         .collect();
     let rounds = random.range(1, 5) as usize;
     let most = random.pick(&[200, 400, 1_000]);
-    let mut factors: [Vec<u32>; 2] = Default::default();
-    for list in &mut factors {
-        *list = (0..rounds).map(|_| random.range32(100, most)).collect();
-        list.sort_unstable_by(|left, right| right.cmp(left));
+    let schedule = falling_factors(random, rounds, [most; 2]);
+    let job = Job::new(
+        &plan,
+        start,
+        goal,
+        anchor,
+        guides,
+        guide_count,
+        schedule,
+        u32::MAX,
+    );
+    (plan, job)
+}
+
+/// A job on a graph with a detour: the dear way to a vertex is taken first,
+/// the cheap way found later, so that predecessors trace a walk cheaper than
+/// g(goal); a second way to the goal competes in the next round. Some jobs
+/// follow that script to the letter, others stray from it in some numbers.
+pub fn detour_job(random: &mut Random) -> (Plan, Job) {
+    // 0 start, 1 the vertex with two ways, 2 on its cheap way, 3 the second
+    // way, 4 goal; then vertices that hang on to these.
+    let more = if random.one_in(2) {
+        0
+    } else {
+        random.range32(1, 3)
+    };
+    let vertices = 5 + more;
+    let mut edges = vec![
+        (0, 1, 10),
+        (0, 2, 1),
+        (2, 1, 5),
+        (1, 4, 2),
+        (0, 3, 6),
+        (3, 4, random.range32(0, 6)),
+    ];
+    let stray = random.pick(&[0, 1, 2, 4]);
+    for _ in 0..stray {
+        let edge = random.index(edges.len());
+        let cost = &mut edges[edge].2;
+        *cost = random.range32(cost.saturating_sub(3), *cost + 3);
     }
-    let [w1, w2] = factors;
-    let schedule = w1.into_iter().zip(w2).flat_map(|(w1, w2)| [w1, w2]);
-    let schedule = schedule.collect();
+    for vertex in 5..vertices {
+        let other = random.range32(0, vertices - 1);
+        edges.push((other, vertex, random.range32(0, 12)));
+        if random.one_in(2) {
+            let other = random.range32(0, vertices - 1);
+            edges.push((vertex, other, random.range32(0, 12)));
+        }
+    }
+    if random.one_in(6) {
+        // No walk to the goal.
+        edges.retain(|edge| edge.1 != 4);
+    }
+    let (plan, numbers) = renumbered(random, vertices, &edges);
+    let (start, goal) = (numbers[0], numbers[4]);
+    let anchor = if random.one_in(3) {
+        random_anchor(random, &plan, goal)
+    } else {
+        vec![0; vertices as usize]
+    };
+    let mut sheets = [vec![9; vertices as usize], vec![9; vertices as usize]];
+    for (vertex, number) in [(0, 0), (1, 5), (2, 0), (3, 0), (4, 9)] {
+        sheets[0][numbers[vertex] as usize] = number;
+    }
+    for (vertex, number) in [(0, 0), (1, 0), (2, 9), (3, 9), (4, 9)] {
+        sheets[1][numbers[vertex] as usize] = number;
+    }
+    for _ in 0..stray {
+        let sheet = random.index(2);
+        sheets[sheet][random.index(vertices as usize)] = random.range32(0, 9);
+    }
+    let mut schedule = vec![
+        random.range32(300, 1_000),
+        1_000 + random.range32(0, 150),
+        random.range32(100, 300),
+        random.range32(120, 199),
+    ];
+    for _ in 0..random.index(3) {
+        let last = schedule.len() - 2;
+        let next = [
+            random.range32(100, schedule[last]),
+            random.range32(100, schedule[last + 1]),
+        ];
+        schedule.extend(next);
+    }
+    let job = Job::new(
+        &plan,
+        start,
+        goal,
+        anchor,
+        sheets.concat(),
+        2,
+        schedule,
+        u32::MAX,
+    );
+    (plan, job)
+}
+
+/// A job whose anchor table is steep and counts for much: the anchor expands
+/// vertices whose cost falls later, and holds them.
+pub fn steep_job(random: &mut Random) -> (Plan, Job) {
+    let vertices = random.range32(4, 10);
+    let most_cost = random.pick(&[9, 30, 90]);
+    let mut edges = Vec::new();
+    for tail in 0..vertices {
+        for head in 0..vertices {
+            if random.one_in(3) && (tail, head) != (0, 1) {
+                edges.push((tail, head, random.range32(0, most_cost)));
+            }
+        }
+    }
+    if random.one_in(4) {
+        // No walk to the goal.
+        edges.retain(|edge| edge.1 != 1);
+    }
+    let (plan, numbers) = renumbered(random, vertices, &edges);
+    let (start, goal) = (numbers[0], numbers[1]);
+    let most = most_cost * random.range32(1, 5);
+    let mut wish: Vec<u32> = (0..vertices).map(|_| random.range32(0, most)).collect();
+    wish[goal as usize] = 0;
+    let anchor = dijkstra::consistent_table(&plan, &wish);
+    let guide_count = random.range32(0, 2);
+    let guides = (0..guide_count)
+        .flat_map(|_| {
+            let hostile = random.one_in(2);
+            let number = random.range32(0, most);
+            (0..vertices)
+                .map(|_| match hostile {
+                    true => u32::MAX,
+                    false => random.range32(0, number),
+                })
+                .collect::<Vec<u32>>()
+        })
+        .collect();
+    let rounds = random.range(1, 5) as usize;
+    let most = [
+        random.pick(&[300, 1_000, 10_000]),
+        random.pick(&[100, 150, 400]),
+    ];
+    let schedule = falling_factors(random, rounds, most);
     let job = Job::new(
         &plan,
         start,
@@ -518,11 +667,14 @@ pub fn ends_of_rounds(job: &Job) -> Vec<u32> {
 pub fn valid_jobs(seed: u64, count: usize, sink: &mut dyn FnMut(&Plan, &Job)) {
     let mut random = Random::new(seed);
     for _ in 0..count {
-        let (plan, mut job) = if random.one_in(2) {
-            twisted_job(&mut random)
-        } else {
-            let shape = random.pick(&SHAPES);
-            random_job(&mut random, shape)
+        let (plan, mut job) = match random.below(6) {
+            0 => twisted_job(&mut random),
+            1 => detour_job(&mut random),
+            2 => steep_job(&mut random),
+            _ => {
+                let shape = random.pick(&SHAPES);
+                random_job(&mut random, shape)
+            }
         };
         sink(&plan, &job);
         let mut budgets = Vec::new();

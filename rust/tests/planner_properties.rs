@@ -253,6 +253,6 @@ fn rare_events() {
         println!("{name}: {count} in {} jobs", events.jobs);
     }
     for (name, count) in events.names() {
-        assert!(count >= 1, "{name}: {count} in {} jobs", events.jobs);
+        assert!(count >= 100, "{name}: {count} in {} jobs", events.jobs);
     }
 }
