@@ -7,7 +7,7 @@ use std::collections::BTreeMap;
 
 use crate::dijkstra;
 use crate::generate::{self, Plan};
-use crate::planner::{self, Answer, Event};
+use crate::planner::{self, Answer, Event, Fault};
 use crate::random::Random;
 
 /// A planner call with the lengths of its lent memory.
@@ -57,7 +57,16 @@ pub struct SecondPlanner;
 
 impl Planner for SecondPlanner {
     fn plan(&self, job: &Job, route: &mut [u32], log: &mut [u32], work: &mut [u32]) -> Answer {
-        job.observed(route, log, work, &mut |_| ())
+        job.observed(route, log, work, None, &mut |_| ())
+    }
+}
+
+/// The second planner with a fault.
+pub struct FaultyPlanner(pub Fault);
+
+impl Planner for FaultyPlanner {
+    fn plan(&self, job: &Job, route: &mut [u32], log: &mut [u32], work: &mut [u32]) -> Answer {
+        job.observed(route, log, work, Some(self.0), &mut |_| ())
     }
 }
 
@@ -90,12 +99,14 @@ impl Job {
         }
     }
 
-    /// The second planner's call with its events.
+    /// The second planner's call with its events, with a fault if one is
+    /// wanted.
     pub fn observed(
         &self,
         route: &mut [u32],
         log: &mut [u32],
         work: &mut [u32],
+        fault: Option<Fault>,
         observe: &mut dyn FnMut(Event),
     ) -> Answer {
         planner::plan_observed(
@@ -110,6 +121,7 @@ impl Job {
             route,
             log,
             work,
+            fault,
             observe,
         )
     }
@@ -121,6 +133,7 @@ impl Job {
             &mut vec![0; self.route_room],
             &mut [],
             &mut vec![0; self.work_room],
+            None,
             &mut |event| events.push(event),
         );
         (answer, events)
