@@ -916,3 +916,105 @@ pub fn damage_bench(random: &mut Random, plan: &Plan, job: &Job) -> Vec<u8> {
     }
     bytes
 }
+
+/// Jobs at the limits: many vertices, many edges, costs whose sums come near
+/// 32 bits, tables of the greatest numbers, eight guides, sixteen rounds.
+pub fn large_jobs(seed: u64, sink: &mut dyn FnMut(&Plan, &Job)) {
+    let mut random = Random::new(seed);
+    // One path through all vertices, each edge of the greatest cost.
+    let path = Plan {
+        vertices: 4_096,
+        tails: (0..4_095).collect(),
+        heads: (1..4_096).collect(),
+        costs: vec![1_000_000; 4_095],
+    };
+    let to_goal: Vec<u32> = (0..4_096)
+        .map(|vertex| (4_095 - vertex) * 1_000_000)
+        .collect();
+    let greatest = vec![u32::MAX; 4_096];
+    for (anchor, guides, guide_count, schedule) in [
+        (vec![0; 4_096], vec![], 0, vec![100, 100]),
+        (to_goal.clone(), greatest.clone(), 1, vec![10_000, 10_000]),
+        (to_goal, vec![0; 4_096], 1, vec![10_000, 10_000, 100, 100]),
+        (vec![0; 4_096], greatest, 1, vec![10_000, 100]),
+    ] {
+        let mut job = Job::new(
+            &path,
+            0,
+            4_095,
+            anchor,
+            guides,
+            guide_count,
+            schedule,
+            u32::MAX,
+        );
+        job.log_room = 4_000;
+        sink(&path, &job);
+    }
+    // Sixteen rounds and eight guides on the largest bench plan.
+    let mut bench = generate::random_plan(&mut random, 256, 2_048);
+    bench.costs.fill_with(|| random.range32(0, 99));
+    for _ in 0..3 {
+        let mut job = job_on(&mut random, &bench);
+        job.guide_count = 8;
+        let sheets = (0..8).map(|_| random_sheet(&mut random, &bench, job.goal, &job.anchor));
+        job.guides = sheets.collect::<Vec<_>>().concat();
+        job.schedule = falling_factors(&mut random, 16, [1_000, 1_000]);
+        job.log_room = 8_192;
+        sink(&bench, &job);
+    }
+    // All vertices and all edges that a plan may have.
+    let most = generate::random_plan(&mut random, 4_096, 32_768);
+    for _ in 0..2 {
+        let mut job = job_on(&mut random, &most);
+        job.schedule = vec![300, 300, 150, 150];
+        job.log_room = 9_000;
+        sink(&most, &job);
+    }
+}
+
+/// Bytes for the bench program with the text that their making decides:
+/// valid jobs, jobs damaged for each refusal that can be met there, changed
+/// and random bytes.
+pub fn bench_jobs(seed: u64, count: usize, sink: &mut dyn FnMut(&[u8], Option<String>)) {
+    let mut random = Random::new(seed);
+    let refused = |number: u32, position: usize| Some(format!("refused {number} at {position}\n"));
+    let mut turn = 0;
+    valid_jobs(seed ^ 0xB5, count, &mut |plan, job| {
+        turn += 1;
+        let mut job = job.clone();
+        match turn % 5 {
+            0 => sink(&damage_bench(&mut random, plan, &job), refused(14, 0)),
+            1 => {
+                let number = random.pick(&[1, 2, 3, 4, 5, 6, 7, 8, 10, 12, 13]);
+                let Some(position) = damage_job(&mut random, plan, &mut job, number) else {
+                    return;
+                };
+                // An odd schedule cannot be written as a bench job, and one
+                // that is too long is refused as 14.
+                if job.schedule.len() % 2 == 0 && job.schedule.len() <= 32 {
+                    sink(&job.bench_bytes(), refused(number, position));
+                }
+            }
+            2 => {
+                let mut bytes = job.bench_bytes();
+                for _ in 0..random.range(1, 2) {
+                    let at = random.index(bytes.len());
+                    match random.below(4) {
+                        0 => bytes[at] ^= 1 << random.below(8),
+                        1 => bytes[at] = random.byte(),
+                        2 if bytes.len() > 1 => drop(bytes.remove(at)),
+                        _ => bytes.insert(at, bytes[at]),
+                    }
+                }
+                sink(&bytes, None);
+            }
+            3 if random.one_in(4) => {
+                let length = random.index(40);
+                let bytes: Vec<u8> = (0..length).map(|_| random.byte() % 6).collect();
+                sink(&bytes, None);
+            }
+            _ => sink(&job.bench_bytes(), None),
+        }
+    });
+}

@@ -256,3 +256,17 @@ fn rare_events() {
         assert!(count >= 100, "{name}: {count} in {} jobs", events.jobs);
     }
 }
+
+#[test]
+fn jobs_at_the_limits() {
+    let mut met = Met::default();
+    let mut costs = Vec::new();
+    jobs::large_jobs(45, &mut |plan, job| {
+        check(plan, job, &mut met);
+        if let (Answer::Route { cost, .. }, _) = job.events() {
+            costs.push(cost);
+        }
+    });
+    assert_eq!(costs[..4], [4_095_000_000; 4]);
+    assert!(met.routes >= 5);
+}
