@@ -145,7 +145,7 @@ impl Events {
                         Some(_) => self.cheaper_later += 1,
                         None => {}
                     }
-                    if kept.map_or(true, |kept| *traced_cost < kept) {
+                    if kept.is_none_or(|kept| *traced_cost < kept) {
                         kept_walk = traced.clone();
                     }
                 }

@@ -464,7 +464,7 @@ impl Search<'_> {
                     || fault == Some(Fault::LastKept)
                     || fault == Some(Fault::EqualKept) && traced_cost == kept
             };
-            if self.kept.as_ref().map_or(true, |(cost, _)| better(*cost)) {
+            if self.kept.as_ref().is_none_or(|(cost, _)| better(*cost)) {
                 self.kept = Some((traced_cost, traced));
             }
             self.finished += 1;
@@ -476,7 +476,7 @@ impl Search<'_> {
 
 fn bad_schedule(schedule: &[u32]) -> bool {
     schedule.len() > 32
-        || schedule.len() % 2 != 0
+        || schedule.len() % 2 == 1
         || schedule
             .iter()
             .any(|factor| !(100..=10_000).contains(factor))

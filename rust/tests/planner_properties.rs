@@ -131,7 +131,7 @@ fn check(plan: &Plan, job: &Job, met: &mut Met) {
                     assert_eq!(for_guides[vertex], None);
                     for_guides[vertex] = Some(g);
                 }
-                assert!(before[vertex].map_or(true, |before| g < before));
+                assert!(before[vertex].is_none_or(|before| g < before));
                 before[vertex] = Some(g);
                 // Every g is the cost of a walk, so no less than the least.
                 assert_ne!(vertex as u32, job.goal);
@@ -155,9 +155,9 @@ fn check(plan: &Plan, job: &Job, met: &mut Met) {
             assert_eq!(word, jobs::pattern(5, 2, index));
         }
     }
-    for vertex in 0..=vertices {
+    for (vertex, &first) in work[..=vertices].iter().enumerate() {
         let smaller = plan.tails.iter().filter(|&&tail| (tail as usize) < vertex);
-        assert_eq!(work[vertex] as usize, smaller.count());
+        assert_eq!(first as usize, smaller.count());
     }
     let (heads, rest) = work[vertices + 1..].split_at(plan.edges());
     let (costs, rest) = rest.split_at(plan.edges());
