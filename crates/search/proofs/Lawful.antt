@@ -3,7 +3,7 @@
 use mathlib.Core.Path.{_≡_, refl, sym, subst}
 use mathlib.Core.Logic.{_↔_}
 use mathlib.Core.Bool.{Bool, not}
-use mathlib.Core.List.{List, [], _∷_, List·Memᴰ, List·Memᴰ·head, List·Memᴰ·tail, List·Memᴰ·not-nil}
+use mathlib.Core.List.{List, List·Memᴰ}
 use Prim.Native.Nat.{ℕ, zero, suc, _*_, _≤_, _<_}
 use lib.ListN.{length}
 use lib.Dec.{T}
@@ -17,26 +17,8 @@ use Rattle.search.specs.Rounds.{State, Stand, Moment, inHand, choice, be
 use Rattle.search.proofs.Facts.{Valid, Steady}
 use Rattle.search.proofs.Least.{keyAt}
 use Rattle.search.proofs.Legal.{between, walk-reached, reached-walk}
-use Rattle.search.proofs.Runs.{Going-on, over, due, going-on, moments-due, moments-over}
+use Rattle.search.proofs.Twice.{each-turn}
 use Rattle.search.proofs.Standing.{Good, Says, begin-good, run-good, steady, legal, lead-bound}
-
--- ---- what holds of the turn at every stand holds of every turn
-
-module _ (job : Job) (Fine : Stand → Type 0) (y : Steady job Fine) (P : Moment → Type 0)
-    (each : (z : Stand) (m a : ℕ) → Fine z → z .step ≡ Due m a → P (record { before = z .state; choice = choice job m a (z .state) })) where
-  every-by : (n : ℕ) (z : Stand) → Fine z → (t : Moment) → ((x : Stand) → Fine x → List·Memᴰ t (moments job n x) → P t) → Going-on z →
-      List·Memᴰ t (moments job (suc n) z) → P t
-  every-by n z f t ih (over _ k) q = absurd (List·Memᴰ·not-nil (rw (moments-over job z k (suc n)) at q))
-  every-by n z f t ih (due _ m a e) q = by (rw (moments-due job n z m a e) at q)
-    where
-      by : List·Memᴰ t (record { before = z .state; choice = choice job m a (z .state) } ∷ moments job n (advance job z)) → P t
-      by (List·Memᴰ·head h) = rw h (each z m a f e)
-      by (List·Memᴰ·tail h) = ih (advance job z) (y .next z m a f e) h
-
-  pub every : (n : ℕ) (t : Moment) (z : Stand) → Fine z → List·Memᴰ t (moments job n z) → P t
-  unfolding moments
-  every zero t z f q = absurd (List·Memᴰ·not-nil q)
-  every (suc n) t z f q = every-by n z f t (every n t) (going-on z) q
 
 -- ---- legality
 
@@ -66,7 +48,7 @@ module _ (job : Job) (v : Valid job) (n : ℕ) where
           subst (λ (i : ℕ). keyAt (inHand job (z .state) .w1) (heuristic job i) (z .state .vertices) (choice job m a (z .state) .vertex) ≡ m) (sym e) k
 
   pub lawful : (t : Moment) → List·Memᴰ t (moments job n (begin job)) → Lawful job t
-  lawful t q = every job (Good job) (steady job v) (Lawful job) lawful-at n t (begin job) (begin-good job v) q
+  lawful = each-turn job (Good job) (steady job v) (Lawful job) lawful-at n (begin job) (begin-good job v)
 
   -- ---- at no route, exactly the vertices that a walk leads to are reached
 
