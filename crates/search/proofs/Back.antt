@@ -3,7 +3,7 @@
 use mathlib.Core.Path.{_≡_, refl, sym, ap, _∙_}
 use mathlib.Core.Logic.{_≢_}
 use mathlib.Core.List.{List, List·Memᴰ}
-use Prim.Native.Nat.{ℕ, zero, suc, _+_, _≤_, _<_}
+use Prim.Native.Nat.{ℕ, suc, _+_, _≤_, _<_}
 use native.Mathlib.Nat.{le-refl, le-of-eq}
 use native.Mathlib.Omega.{arith}
 use lib.ListN.{length}
@@ -13,7 +13,7 @@ use Rattle.search.specs.Job.{at, unreached}
 use Rattle.search.specs.Turn.{lowered, marked, expand}
 use Rattle.search.proofs.Facts.{Traced, root, link}
 use Rattle.search.proofs.Moves.{Moved, same, down, After, self, other, after}
-use Rattle.search.proofs.Sound.{Tidy, Sound, moved-v}
+use Rattle.search.proofs.Sound.{Sound, moved-v}
 
 pub record Back (edges : List Edge) (start : ℕ) (st : List Vertex) (x : ℕ) : Type 0 where
   pub count : ℕ

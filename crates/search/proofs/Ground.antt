@@ -1,13 +1,12 @@
 -- What holds of the vertices between turns, in every round: from the first state, through expansions and the beginning of a round.
 -- Assumes nothing.
-use mathlib.Core.Path.{_≡_, refl, sym, ap, _∙_}
+use mathlib.Core.Path.{_≡_, refl, ap, _∙_}
 use mathlib.Core.Logic.{_≢_}
-use mathlib.Core.Bool.{Bool, true, false, not}
-use mathlib.Core.List.{List, [], _∷_, List·Memᴰ, map}
-use Prim.Native.Nat.{ℕ, zero, suc, _+_, _*_, _≤_, _<_}
+use mathlib.Core.List.{List, List·Memᴰ, map}
+use Prim.Native.Nat.{ℕ, _+_, _*_, _≤_, _<_}
 use native.Mathlib.Nat.{le-refl, le-trans, le-of-eq, mul-le-mul-left}
 use native.Mathlib.Omega.{arith}
-use lib.ListN.{length, set, replicate, length-set, length-replicate, length-map, List·getD-map, getD-replicate, List·getD-eq-default}
+use lib.ListN.{length, replicate, length-set, length-replicate, length-map, List·getD-map, getD-replicate, List·getD-eq-default}
 use lib.Dec.{T}
 use Rattle.graph.specs.declared.Edge.{Edge}
 use Rattle.graph.specs.Limits.{maxCost}
@@ -19,7 +18,7 @@ use Rattle.search.proofs.Tools.{same-cases, le-cases, at-set-same, at-s
 use Rattle.search.proofs.Facts.{Valid, root}
 use Rattle.search.proofs.Moves.{After, self, other, after, length-expand}
 use Rattle.search.proofs.Sound.{Tidy, tidy-fresh, tidy-origin, tidy-reopened, Sound, sound-expand, moved-v}
-use Rattle.search.proofs.Reached.{Reach, reachedIn, reach-expand, reached-le, count-le, count-lt}
+use Rattle.search.proofs.Reached.{Reach, reachedIn, reach-expand, count-le, count-lt}
 use Rattle.search.proofs.Back.{Back, back-expand, traced-stays}
 
 pub record Ground (job : Job) (st : List Vertex) : Type 0 where

@@ -1,11 +1,11 @@
 -- Legal expansions, the states that they reach over rounds, and what holds of each such state. Whichever rule makes the choice.
 -- Assumes nothing.
-use mathlib.Core.Path.{_≡_, refl, sym, ap, subst}
+use mathlib.Core.Path.{_≡_, sym, ap, subst}
 use mathlib.Core.Logic.{_≢_}
-use mathlib.Core.Bool.{Bool, cond, not}
-use mathlib.Core.List.{List, [], _∷_, List·Memᴰ, map}
-use Prim.Native.Nat.{ℕ, zero, suc, _+_, _*_, _≤_, _<_}
-use native.Mathlib.Nat.{le-refl, le-trans, mul-le-mul-left, mul-le-mul-right}
+use mathlib.Core.Bool.{cond, not}
+use mathlib.Core.List.{List, List·Memᴰ, map}
+use Prim.Native.Nat.{ℕ, suc, _+_, _*_, _≤_, _<_}
+use native.Mathlib.Nat.{mul-le-mul-left}
 use native.Mathlib.Omega.{arith}
 use lib.ListN.{length, getD}
 use lib.Dec.{T, ltb}
@@ -23,9 +23,9 @@ use Rattle.search.proofs.Tools.{bool-cases, le-cases, cond-ind}
 use Rattle.search.proofs.Facts.{Valid, InRange, Traced, root, link}
 use Rattle.search.proofs.Paths.{Path, still, further, path-of, walk-of}
 use Rattle.search.proofs.Moves.{after}
-use Rattle.search.proofs.Sound.{Tidy, Sound, after-g}
+use Rattle.search.proofs.Sound.{after-g}
 use Rattle.search.proofs.Near.{Near, near-after, Front, near, ahead, front}
-use Rattle.search.proofs.Least.{Leads, keyAt, offeredAt}
+use Rattle.search.proofs.Least.{Leads, keyAt}
 use Rattle.search.proofs.Reached.{reachedIn, reached-le}
 use Rattle.search.proofs.Ground.{Ground, ground-first, ground-expand, ground-reopened, at-reopened, first-unmarked}
 

@@ -1,8 +1,6 @@
 -- The core: in a round with the factor w, the least key of the anchor is within w of every walk.
 -- Assumes nothing.
 use mathlib.Core.Path.{_≡_, ap}
-use mathlib.Core.Logic.{_≢_}
-use mathlib.Core.Bool.{Bool, not, _||_}
 use mathlib.Core.List.{List, List·Memᴰ}
 use Prim.Native.Nat.{ℕ, _+_, _*_, _≤_, _<_}
 use native.Mathlib.Nat.{mul-le-mul-left, mul-le-mul-right}
@@ -16,7 +14,7 @@ use Rattle.search.specs.Turn.{marked, isAnchor}
 use Rattle.search.proofs.Tools.{bool-cases, le-cases, or-cases}
 use Rattle.search.proofs.Paths.{Path, still, further}
 use Rattle.search.proofs.Moves.{After, self, other}
-use Rattle.search.proofs.Sound.{Tidy, Sound, moved-v, moved-anchor}
+use Rattle.search.proofs.Sound.{Sound, moved-v, moved-anchor}
 
 -- ---- a vertex closed for the anchor search was expanded at a g within w of every walk
 

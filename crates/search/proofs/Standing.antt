@@ -1,11 +1,10 @@
 -- What holds wherever the search stands, from the first state on, and of each turn.
 -- Assumes nothing.
 use mathlib.Core.Path.{_≡_, refl, sym, ap, _∙_, subst}
-use mathlib.Core.Logic.{_≢_}
-use mathlib.Core.Bool.{Bool, true, false, cond, not, _||_}
+use mathlib.Core.Bool.{not}
 use mathlib.Core.List.{List, [], _∷_, List·Memᴰ, List·Memᴰ·head, List·Memᴰ·tail, List·Memᴰ·not-nil}
-use Prim.Native.Nat.{ℕ, zero, suc, _+_, _-_, _*_, _≤_, _<_}
-use native.Mathlib.Nat.{le-refl, le-trans, le-of-eq}
+use Prim.Native.Nat.{ℕ, zero, suc, _+_, _*_, _≤_, _<_}
+use native.Mathlib.Nat.{le-refl, le-trans}
 use native.Mathlib.Omega.{arith}
 use lib.ListN.{length}
 use lib.Dec.{T}
@@ -22,7 +21,7 @@ use Rattle.search.specs.Guarantee.{roundOf}
 use Rattle.search.proofs.Tools.{or-left, or-right}
 use Rattle.search.proofs.Facts.{Valid, InRange, TracedWalk, Left, Free, Steady}
 use Rattle.search.proofs.Moves.{Moved, same, down, After, self, other, after}
-use Rattle.search.proofs.Sound.{Tidy, Sound, moved-v, moved-anchor}
+use Rattle.search.proofs.Sound.{moved-v, moved-anchor}
 use Rattle.search.proofs.Ground.{Ground}
 use Rattle.search.proofs.Legal
 use Rattle.search.proofs.Legal.{AnchorLeads, Going, Legal, Reachable, Between, between, least-bound, round-bound}

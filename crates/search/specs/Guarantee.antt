@@ -1,13 +1,12 @@
 -- The guarantee (the promise of demand 3): one record about a planner call that is not refused, and its whole list of turns.
-use Prim.Native.Nat.{ℕ, suc, _+_, _-_, _*_, _≤_, _<_}
+use Prim.Native.Nat.{ℕ, _-_, _*_, _≤_, _<_}
 use mathlib.Core.Path.{_≡_}
 use mathlib.Core.Logic.{_⊎_, _↔_}
-use mathlib.Core.Bool.{Bool, true, false, cond}
+use mathlib.Core.Bool.{true, false, cond}
 use mathlib.Core.List.{List, [], _∷_, map, List·Memᴰ}
 use lib.ListN.{length, take}
 use lib.Dec.{eqb}
 use Rattle.graph.specs.Lists.{none}
-use Rattle.search.specs.declared.Step.{Step}
 use Rattle.search.specs.declared.Step.the-variants.{Due}
 use Rattle.search.specs.declared.Answer.{Answer}
 use Rattle.search.specs.Walk.{Walk, NoWalk}

@@ -1,8 +1,8 @@
 -- What a planner call hands over: its answer, and lent memory.
 use Prim.Native.Nat.{ℕ, zero, suc, _+_, _-_, _*_}
-use mathlib.Core.Bool.{Bool, cond}
+use mathlib.Core.Bool.{cond}
 use mathlib.Core.List.{List, [], _∷_, _++_, map}
-use lib.ListN.{length, take, drop, replicate}
+use lib.ListN.{length, take, replicate}
 use lib.Dec.{ltb, eqb}
 use Rattle.graph.specs.declared.Edge.{Edge}
 use Rattle.graph.specs.Plan.{decode}
