@@ -77,7 +77,7 @@ settle-same job (suc n) s e = by (step job s) e
 module _ (job : Job) (v : Valid job) where
   -- the trace from a reached goal is a walk
   traces : (s : State) → Ground job (s .vertices) → at (s .vertices) (job .goal) .g < unreached → TracedWalk job s
-  traces s g r = traced-walk job v s (g .sized) (λ u. g .sound .tidy u .le) (g .backs (job .goal) r .way) r
+  traces s g r = traced-walk job v s (g .sized) (λ u. g .sound .proper u .le) (g .backs (job .goal) r .way) r
 
   in-range : (s : State) → s .progress .rounds < length (job .schedule) → InRange (inHand job s .w1) (inHand job s .w2)
   unfolding inHand
@@ -180,7 +180,7 @@ module _ (job : Job) (v : Valid job) where
 
     free : Free job c s
     free =
-        let p = b .ground .sound .tidy (c .vertex) .waits (legal .opened) in
+        let p = b .ground .sound .proper (c .vertex) .waits (legal .opened) in
         record { inside = omega (arith, legal .inside, b .ground .sized); anchor = p .1; guide = legal .guide; below = p .0 }
 
     rises : s .progress .rounds ≤ advance job z .state .progress .rounds
@@ -234,7 +234,7 @@ module _ (job : Job) (v : Valid job) where
         free = free job v;
         rises = rises job v;
         keeps = λ z m a y e k x i c l.
-            left-stays (between job v (y .ok .reach) .ground .sound .tidy _ .le) (steps job v z m a y e k x) i c l;
+            left-stays (between job v (y .ok .reach) .ground .sound .proper _ .le) (steps job v z m a y e k x) i c l;
         leaves = λ z m a y e k. left-new (steps job v z m a y e k _);
         scheduled = λ z m a y e. says-due y e .0;
       }
