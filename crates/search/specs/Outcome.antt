@@ -63,16 +63,8 @@ pub record Figures : Type 0 where
 
 unfoldable pub figures : Answer → Figures
 figures (Route s) =
-    record {
-      ending = route;
-      number = 0;
-      position = 0;
-      cost = s .cost;
-      length = s .length;
-      rounds = s .rounds;
-      turns = s .expansions;
-      bound = s .bound;
-    }
+    let t : ℕ = s .expansions in
+    record { ending = route; number = 0; position = 0; cost = s .cost; length = s .length; rounds = s .rounds; turns = t; bound = s .bound }
 figures (NoRoute t) = record { ending = noRoute; number = 0; position = 0; cost = 0; length = 0; rounds = 0; turns = t; bound = 0 }
 figures (Unfinished t) = record { ending = unfinished; number = 0; position = 0; cost = 0; length = 0; rounds = 0; turns = t; bound = 0 }
 figures (Refused n p) = record { ending = refused; number = n; position = p; cost = 0; length = 0; rounds = 0; turns = 0; bound = 0 }
