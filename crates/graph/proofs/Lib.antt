@@ -1,7 +1,11 @@
 pub mod Tests
 pub mod Rows
+pub mod Sorted
 pub mod OneEdge
+pub mod Reading
+pub mod Filling
 pub mod Plan
+pub mod Within
 pub mod OneForm
 pub mod Measuring
 pub mod Laying

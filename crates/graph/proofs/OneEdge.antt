@@ -1,29 +1,28 @@
 -- Laws of one edge: what an edge that was read passed and where its bytes stand, and when an edge is read.
 -- Assumes nothing.
-use Prim.Native.Nat.{ℕ, zero, suc, _+_, _-_, _≤_, _<_, _^_}
+use Prim.Native.Nat.{ℕ, _+_, _-_, _≤_, _<_}
 use native.Mathlib.Omega.{arith}
 use mathlib.Core.Path.{_≡_, refl, sym, ap, _∙_, subst}
-use mathlib.Core.Bool.{Bool, true, false, cond, _&&_, _||_}
-use mathlib.Core.List.{List, [], _∷_, _++_, append-assoc}
-use lib.ListN.{length, drop, length-append}
+use mathlib.Core.Bool.{Bool, true, false, cond, _&&_}
+use mathlib.Core.List.{List, _++_, append-assoc}
+use lib.ListN.{length, drop}
 use lib.Seq.{drop-at, drop-drop}
-use lib.Dec.{ltb, leb, eqb}
-use borrow.Author.Tests.{ltb-true, ltb-false, leb-true, leb-false, eqb-true, eqb-false, lt-ltb, le-ltb, le-leb, lt-leb, eq-eqb, ne-eqb}
+use lib.Dec.{ltb, eqb}
+use borrow.Author.Tests.{ltb-false, leb-false, eqb-true, le-ltb, lt-leb, eq-eqb}
 use Rattle.leb128.specs.Number.{Bytes, encode, read, planGroups}
-use Rattle.leb128.specs.OneForm.{FormAt}
-use Rattle.leb128.specs.declared.NumberRead.the-variants.{Value, Refused}
-use Rattle.leb128.proofs.Laws.{value-within, value-form, read-form, Within}
+use Rattle.leb128.proofs.Laws.{value-within, value-form, read-form}
 use Rattle.graph.specs.declared.Edge.{Edge}
 use Rattle.graph.specs.declared.Cursor.{Cursor}
-use Rattle.graph.specs.declared.Taken.{Taken}
 use Rattle.graph.specs.declared.Taken.the-variants.{Number}
 use Rattle.graph.specs.declared.EdgeRead.{EdgeRead}
 use Rattle.graph.specs.declared.EdgeRead.the-variants.{Next, Fault}
 use Rattle.graph.specs.Limits.{maxVertices, maxCost}
-use Rattle.graph.specs.Rows.{Row, row, take, taking, tailRows, headRows, costRows}
+use Rattle.graph.specs.Rows.{take, taking, tailRows, headRows, costRows}
 use Rattle.graph.specs.Plan.{leastAfter, past, nextEdge}
 use Rattle.graph.specs.Lists.{edgeRows, edgeBytes}
+use Rattle.graph.specs.OneForm.{EdgeWithin}
 use Rattle.graph.proofs.Tests.{or-false, and-false, or-left, or-right, and-then}
+use Rattle.graph.proofs.Sorted.{From}
 use Rattle.graph.proofs.Rows.{Passes, Took, taking-clear, Passed, take-passed, passed-take}
 
 -- what follows a part at an offset
@@ -98,6 +97,44 @@ module _ (v : ℕ) (s : List ℕ) (c : Cursor) (e : Edge) (c′ : Cursor) where
       (take-passed s (b .after) costRows (x .value) (x .after) (x .is)))
       (x .rest)
 
+-- ---- an edge passes the writer's rows exactly if it is within the limits and may follow
+
+module _ (v t l : ℕ) (e : Edge) where
+  pub passes-from : Passes (edgeRows v t l e) → From t l e
+  unfolding edgeRows
+  passes-from p =
+      record {
+        rising = ltb-false (e .tail) t (or-left (ltb (e .tail) t) (eqb (e .tail) t && ltb (e .head) l) (p .1 .1 .0));
+        above =
+            λ q. ltb-false (e .head) l
+            (and-then (eqb (e .tail) t) (ltb (e .head) l)
+            (or-right (ltb (e .tail) t) (eqb (e .tail) t && ltb (e .head) l) (p .1 .1 .0))
+            (eq-eqb (e .tail) t q));
+      }
+
+  pub within-passes : EdgeWithin v e → From t l e → Passes (edgeRows v t l e)
+  unfolding edgeRows
+  within-passes w f = (
+    lt-leb v (e .tail) (w .tail),
+    (
+      lt-leb v (e .head) (w .head),
+      (
+        or-false _ _ (le-ltb (e .tail) t (f .rising))
+            (and-false _ _ (λ q. le-ltb (e .head) l (f .above (eqb-true (e .tail) t q)))),
+        (le-ltb maxCost (e .cost) (w .cost), tt),
+      ),
+    ),
+  )
+
+  pub passes-within : Passes (edgeRows v t l e) → EdgeWithin v e
+  unfolding edgeRows
+  passes-within p =
+      record {
+        tail = leb-false v (e .tail) (p .0);
+        head = leb-false v (e .head) (p .1 .0);
+        cost = ltb-false maxCost (e .cost) (p .1 .1 .1 .0);
+      }
+
 -- ---- the rows that the writer asks of an edge are those that its numbers passed
 
 -- a test that fails
@@ -126,18 +163,9 @@ module _ {v : ℕ} {s : List ℕ} {c : Cursor} {e : Edge} {end : ℕ} (r : Read 
       subst (λ (b : Bool). cond b (c .least) 0 ≤ e .head) z head-least
 
   pub edge-passes : Passes (edgeRows v (c .tail) (c .least) e)
-  unfolding edgeRows
-  edge-passes = (
-    lt-leb v (e .tail) tail-place,
-    (
-      lt-leb v (e .head) head-place,
-      (
-        or-false _ _ (le-ltb (e .tail) (c .tail) (r .rising))
-            (and-false _ _ (λ q. le-ltb (e .head) (c .least) (head-rises (eqb-true (e .tail) (c .tail) q)))),
-        (le-ltb maxCost (e .cost) cost-most, tt),
-      ),
-    ),
-  )
+  edge-passes =
+      within-passes v (c .tail) (c .least) e (record { tail = tail-place; head = head-place; cost = cost-most })
+      (record { rising = r .rising; above = head-rises })
 
   -- its bytes stand there, and nothing else
   pub edge-later : c .at < end
@@ -174,29 +202,11 @@ module _ (v at t l : ℕ) (s : List ℕ) (e : Edge) (rest : List ℕ) (few : v �
   abbrev endOffset : ℕ
   endOffset = costOffset + length (encode planGroups (e .cost))
 
-  is-tail : e .tail < v
-  unfolding edgeRows
-  is-tail = leb-false v (e .tail) (p .0)
+  within : EdgeWithin v e
+  within = passes-within v t l e p
 
-  is-head : e .head < v
-  unfolding edgeRows
-  is-head = leb-false v (e .head) (p .1 .0)
-
-  not-falling : t ≤ e .tail
-  unfolding edgeRows
-  not-falling = ltb-false (e .tail) t (or-left (ltb (e .tail) t) (eqb (e .tail) t && ltb (e .head) l) (p .1 .1 .0))
-
-  is-above : e .tail ≡ t → l ≤ e .head
-  unfolding edgeRows
-  is-above h =
-      ltb-false (e .head) l
-      (and-then (eqb (e .tail) t) (ltb (e .head) l)
-      (or-right (ltb (e .tail) t) (eqb (e .tail) t && ltb (e .head) l) (p .1 .1 .0))
-      (eq-eqb (e .tail) t h))
-
-  is-cheap : e .cost ≤ maxCost
-  unfolding edgeRows
-  is-cheap = ltb-false maxCost (e .cost) (p .1 .1 .1 .0)
+  follows : From t l e
+  follows = passes-from v t l e p
 
   -- the bytes after each number
   tail-bytes : drop at s ≡ encode planGroups (e .tail - t) ++ (encode planGroups (e .head) ++ (encode planGroups (e .cost) ++ rest))
@@ -213,32 +223,32 @@ module _ (v at t l : ℕ) (s : List ℕ) (e : Edge) (rest : List ℕ) (few : v �
   end-bytes = next-drop s costOffset (encode planGroups (e .cost)) rest cost-bytes
 
   least-known : (q : Bool) → eqb (e .tail - t) 0 ≡ q → cond q l 0 ≤ e .head
-  least-known true h = is-above (omega (arith, eqb-true (e .tail - t) 0 h, not-falling))
+  least-known true h = follows .above (omega (arith, eqb-true (e .tail - t) 0 h, follows .rising))
   least-known false h = omega arith
 
   taken-tail : take s at (tailRows v t) ≡ Number (e .tail - t) headOffset
   unfolding tailRows planGroups
   taken-tail =
       passed-take s at (tailRows v t) (e .tail - t) headOffset
-      (read-form planGroups s at (e .tail - t) _ (omega arith) (omega (arith, is-tail)) (omega (arith, is-tail)) tail-bytes)
-      (lt-leb v (t + (e .tail - t)) (omega (arith, is-tail, not-falling)), tt)
+      (read-form planGroups s at (e .tail - t) _ (omega arith) (omega (arith, within .tail)) (omega (arith, within .tail)) tail-bytes)
+      (lt-leb v (t + (e .tail - t)) (omega (arith, within .tail, follows .rising)), tt)
 
   taken-head : take s headOffset (headRows v (leastAfter cursor (e .tail - t))) ≡ Number (e .head) costOffset
   unfolding headRows leastAfter planGroups
   taken-head =
       passed-take s headOffset (headRows v (leastAfter cursor (e .tail - t))) (e .head) costOffset
-      (read-form planGroups s headOffset (e .head) _ (omega arith) (omega (arith, is-head)) (omega (arith, is-head)) head-bytes)
-      (lt-leb v (e .head) is-head, (le-ltb (e .head) _ (least-known (eqb (e .tail - t) 0) refl), tt))
+      (read-form planGroups s headOffset (e .head) _ (omega arith) (omega (arith, within .head)) (omega (arith, within .head)) head-bytes)
+      (lt-leb v (e .head) (within .head), (le-ltb (e .head) _ (least-known (eqb (e .tail - t) 0) refl), tt))
 
   taken-cost : take s costOffset costRows ≡ Number (e .cost) endOffset
   unfolding costRows planGroups
   taken-cost =
       passed-take s costOffset costRows (e .cost) endOffset
-      (read-form planGroups s costOffset (e .cost) _ (omega arith) (omega (arith, is-cheap)) (omega (arith, is-cheap)) cost-bytes)
-      (le-ltb maxCost (e .cost) is-cheap, tt)
+      (read-form planGroups s costOffset (e .cost) _ (omega arith) (omega (arith, within .cost)) (omega (arith, within .cost)) cost-bytes)
+      (le-ltb maxCost (e .cost) (within .cost), tt)
 
   sum-tail : t + (e .tail - t) ≡ e .tail
-  sum-tail = omega (arith, not-falling)
+  sum-tail = omega (arith, follows .rising)
 
   pub edge-read-back : nextEdge v s cursor ≡ Next e (past e endOffset)
   unfolding nextEdge taking

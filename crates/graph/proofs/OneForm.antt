@@ -1,23 +1,26 @@
 -- Exactly one byte form for each plan.
 -- Assumes nothing.
-use Prim.Native.Nat.{ℕ, zero, suc, _+_, _-_, _≤_, _<_}
+use Prim.Native.Nat.{ℕ, _-_, _≤_}
 use native.Mathlib.Omega.{arith}
-use mathlib.Core.Path.{_≡_, refl, sym, ap, _∙_, subst}
-use mathlib.Core.Bool.{Bool, true, false, not, _&&_, _||_}
-use mathlib.Core.List.{List, [], _∷_, _++_, map, List·Memᴰ}
+use mathlib.Core.Path.{_≡_, refl, sym, ap, _∙_}
+use mathlib.Core.Bool.{false, not}
+use mathlib.Core.List.{List, [], _∷_, _++_}
 use lib.ListN.{length, length-map}
-use lib.Dec.{ltb, leb, eqb}
-use borrow.Author.Tests.{ltb-false, le-ltb, eqb-true, eqb-false, eq-eqb, ne-eqb, not-true, not-false}
-use Rattle.leb128.specs.Number.{Bytes}
+use lib.Dec.{ltb, eqb}
+use borrow.Author.Tests.{ltb-false, le-ltb, eqb-true, eqb-false, eq-eqb, ne-eqb, not-false}
+use Rattle.leb128.specs.Number.{Bytes, encode, planGroups}
+use Rattle.leb128.proofs.Laws.{bytes-cons, bytes-head, bytes-tail, bytes-encode}
 use Rattle.graph.specs.declared.Edge.{Edge}
-use Rattle.graph.specs.Limits.{maxVertices, maxEdges, maxCost}
-use Rattle.graph.specs.Rows.{Row, row, through, vertexCountRows}
+use Rattle.graph.specs.Limits.{maxVertices, maxEdges}
+use Rattle.graph.specs.Rows.{vertexCountRows}
 use Rattle.graph.specs.Plan.{accepted, decode}
-use Rattle.graph.specs.Lists.{none, fault, edgesOf, listRows, edgesFault, writeFault, bytesOf}
-use Rattle.graph.specs.OneForm.{tails, heads, costs, Rewritten, Reread}
-use Rattle.graph.proofs.Tests.{or-false, or-left, or-right}
-use Rattle.graph.proofs.Rows.{Passes, through-passes, through-clear}
+use Rattle.graph.specs.Lists.{none, fault, edgesOf, listRows, edgesFault, writeFault, edgeBytes, edgesBytes, bytesOf}
+use Rattle.graph.specs.OneForm.{tails, heads, costs, Within, SameEdges, Rewritten, Reread, Form, OneForm}
+use Rattle.graph.proofs.Tests.{or-false, or-left, or-right, and-true, true-and}
+use Rattle.graph.proofs.Rows.{through-passes, through-clear}
 use Rattle.graph.proofs.Plan.{fault≢none, Whole, whole, decode-bytes}
+use Rattle.graph.proofs.Sorted.{sort, sort-same, sort-length, sort-sorted, sorted-equal}
+use Rattle.graph.proofs.Within.{sorted-passes, accepted-sorted}
 
 -- ---- lists and edges
 
@@ -48,14 +51,6 @@ columns (t ∷ ts) (h ∷ hs) (c ∷ cs) p q =
     }
 
 -- ---- what the writer takes
-
-and-true : (a b : Bool) → a && b ≡ true → (a ≡ true) × (b ≡ true)
-and-true true b p = (refl, p)
-and-true false b p = absurd (let z : _≡_ {A = ℕ} 0 1 = cc in omega arith)
-
-true-and : (a b : Bool) → a ≡ true → b ≡ true → a && b ≡ true
-true-and true b p q = q
-true-and false b p q = p
 
 -- what is known of lists that the writer takes
 pub record Takes (v : ℕ) (ts hs cs : List ℕ) : Type 0 where
@@ -126,3 +121,50 @@ reread v ts hs cs h =
       heads = k .heads-are;
       costs = k .costs-are;
     }
+
+-- ---- every plan within the limits has a byte form
+
+bytes-append : (a b : List ℕ) → Bytes a → Bytes b → Bytes (a ++ b)
+bytes-append [] b f g = g
+bytes-append (x ∷ a) b f g = bytes-cons x (a ++ b) (bytes-head x a f) (bytes-append a b (bytes-tail x a f) g)
+
+bytes-edges : (t : ℕ) (es : List Edge) → Bytes (edgesBytes t es)
+unfolding edgesBytes edgeBytes Bytes
+bytes-edges t [] = λ i. omega arith
+bytes-edges t (e ∷ es) =
+    bytes-append (edgeBytes t e) (edgesBytes (e .tail) es)
+    (bytes-append (encode planGroups (e .tail - t)) (encode planGroups (e .head) ++ encode planGroups (e .cost))
+    (bytes-encode planGroups (e .tail - t))
+    (bytes-append (encode planGroups (e .head)) (encode planGroups (e .cost)) (bytes-encode planGroups (e .head)) (bytes-encode planGroups (e .cost))))
+    (bytes-edges (e .tail) es)
+
+pub bytes-of : (v : ℕ) (es : List Edge) → Bytes (bytesOf v es)
+unfolding bytesOf
+bytes-of v es =
+    bytes-append (encode planGroups v) (encode planGroups (length es) ++ edgesBytes 0 es) (bytes-encode planGroups v)
+    (bytes-append (encode planGroups (length es)) (edgesBytes 0 es) (bytes-encode planGroups (length es)) (bytes-edges 0 es))
+
+pub exists : (v : ℕ) (es : List Edge) → Within v es → Form v es
+exists v es w =
+    let s : SameEdges (sort es) es = sort-same es in
+    record {
+      bytes = bytesOf v (sort es);
+      order = sort es;
+      are = bytes-of v (sort es);
+      accepts =
+          decode-bytes v (sort es) (w .some) (w .vertices) (omega (arith, sort-length es, w .edges))
+          (sorted-passes v 0 0 0 (sort es) (λ e m. w .each e (s .there e m)) (sort-sorted es (w .single)));
+      same = s;
+    }
+
+-- ---- and only one
+
+pub only :
+    (s t : List ℕ) (v : ℕ) (ds es : List Edge) → Bytes s → Bytes t → decode s ≡ accepted v ds → decode t ≡ accepted v es →
+    SameEdges ds es → s ≡ t
+only s t v ds es f g h k same =
+    let q : ds ≡ es = sorted-equal ds es (accepted-sorted s v ds h) (accepted-sorted t v es k) same in
+    sym (rewritten s v ds f h .bytes) ∙ ap (bytesOf v) q ∙ rewritten t v es g k .bytes
+
+pub one-form : OneForm
+one-form = record { rewritten = rewritten; reread = reread; exists = exists; only = only }

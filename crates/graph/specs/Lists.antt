@@ -14,6 +14,16 @@ use Rattle.graph.specs.Limits.{maxEdges, maxCost}
 use Rattle.graph.specs.Rows.{Row, row, through, vertexCountRows}
 use Rattle.graph.specs.Plan.{Decoded, accepted, refused, decode, sizes}
 
+-- what the three lists hold of an edge
+abbrev pub tailOf : Edge → ℕ
+tailOf e = e .tail
+
+abbrev pub headOf : Edge → ℕ
+headOf e = e .head
+
+abbrev pub costOf : Edge → ℕ
+costOf e = e .cost
+
 -- what is lent keeps its contents beyond what is written at its front
 unfoldable pub over : List ℕ → List ℕ → List ℕ
 over new old = new ++ drop (length new) old

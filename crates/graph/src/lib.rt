@@ -1,4 +1,8 @@
 // Graphs (document 01's plans) as plan bytes and as lists of edges.
+pub mod check;
+pub mod edges;
+mod number;
+pub mod read;
 pub mod write;
 
 // The limits of a plan: vertices (places), edges (lanes), and the dearest edge.

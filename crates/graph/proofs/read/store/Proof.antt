@@ -1,0 +1,92 @@
+-- `store` meets its contract: an edge, or nothing. Assumes nothing.
+use mathlib.Core.Path.{sym, _∙_}
+use mathlib.Core.List.{[]}
+use Rattle.graph.specs.Lists.{tailOf, headOf, costOf}
+use Rattle.graph.proofs.Filling.{cursor-kept, list-kept, cursor-moved, list-stored}
+use borrow.Author.Needs.{needs}
+use Rattle.graph.proofs.read.store.Statement.{statement}
+use Rattle.graph.proofs.read.store.Tie as tie
+use Rattle.graph.proofs.read.store.Reads as reads
+use Rattle.graph.proofs.read.store.Lts as lts
+use Rattle.graph.proofs.Cursor.step.Reads as step-reads
+
+-- src/read.rt:35:38
+step-requires : tie.Need-step-requires
+step-requires c κs = search needs
+
+-- src/read.rt:35:24
+enum-known-edge : tie.Need-enum-known-edge
+enum-known-edge c = search needs
+
+-- src/read.rt:36:9
+enum-told : tie.Need-enum-told
+enum-told c = search needs
+
+-- src/read.rt:36:9
+returns : tie.Need-returns
+returns c =
+    let q = sym (c .before .before .step .ensures) ∙ c .enum-told .given .1 in
+    let a = c .before .before .before .before .before .before .before .args in
+    (cursor-kept (a .cursor) tailOf (a .i) [] _ _ _ q, (list-kept (a .cursor) tailOf (a .i) _ _ _ _ q, (list-kept (a .cursor) headOf (a .i) _ _ _ _ q, list-kept (a .cursor) costOf (a .i) _ _ _ _ q)))
+
+-- src/read.rt:38:5
+mul-tails : tie.Need-mul-tails
+mul-tails c = search needs
+
+-- src/read.rt:38:5
+slice-write-tails : tie.Need-slice-write-tails
+slice-write-tails c = search needs
+
+-- src/read.rt:39:5
+mul-heads : tie.Need-mul-heads
+mul-heads c = search needs
+
+-- src/read.rt:39:5
+slice-write-heads : tie.Need-slice-write-heads
+slice-write-heads c = search needs
+
+-- src/read.rt:40:5
+mul-costs : tie.Need-mul-costs
+mul-costs c = search needs
+
+-- src/read.rt:40:5
+slice-write-costs : tie.Need-slice-write-costs
+slice-write-costs c = search needs
+
+-- src/read.rt:26:1
+same-length : tie.Need-same-length
+same-length c = search needs
+
+-- src/read.rt:26:1
+same-length-2 : tie.Need-same-length-2
+same-length-2 c = search needs
+
+-- src/read.rt:26:1
+same-length-3 : tie.Need-same-length-3
+same-length-3 c = search needs
+
+-- src/read.rt:26:1
+returns-2 : tie.Need-returns-2
+returns-2 c =
+    let q = sym (c .before .before .before .step .ensures) ∙ c .before .edge .given .1 in
+    let a = c .before .before .before .before .before .before .before .before .args in
+    (cursor-moved (a .cursor) tailOf (a .i) [] _ _ _ q, (list-stored (a .cursor) tailOf (a .i) _ _ _ _ q, (list-stored (a .cursor) headOf (a .i) _ _ _ _ q, list-stored (a .cursor) costOf (a .i) _ _ _ _ q)))
+
+pub store-spec : {M : Type 1} → statement M
+store-spec =
+    tie.close
+    (tie.spec
+    step-requires
+    enum-known-edge
+    enum-told
+    returns
+    mul-tails
+    slice-write-tails
+    mul-heads
+    slice-write-heads
+    mul-costs
+    slice-write-costs
+    same-length
+    same-length-2
+    same-length-3
+    returns-2)

@@ -1,0 +1,7 @@
+pub mod Walk
+pub mod Job
+pub mod Turn
+pub mod Rounds
+pub mod Call
+pub mod Outcome
+pub mod Guarantee

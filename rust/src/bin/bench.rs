@@ -1,0 +1,137 @@
+//! Times the library under test against the second implementation on the
+//! largest plan. A program, not a test: its figures are for reading.
+
+use std::hint::black_box;
+use std::time::Instant;
+
+use secondcoop_tests::compare::{Codec, Library, Reference};
+use secondcoop_tests::random::Random;
+
+const VERTICES: u32 = 4_096;
+const EDGES: usize = 32_768;
+/// Runs of each side, alternating; the median counts.
+const RUNS: usize = 15;
+/// Calls in one run.
+const CALLS: u32 = 100;
+
+/// One plan with eight edges at each vertex, a third of the costs in one
+/// group, a third in two and a third in three.
+struct Plan {
+    tails: Vec<u32>,
+    heads: Vec<u32>,
+    costs: Vec<u32>,
+}
+
+fn largest_plan() -> Plan {
+    let mut random = Random::new(4_096);
+    let each = EDGES / VERTICES as usize;
+    let mut plan = Plan {
+        tails: Vec::with_capacity(EDGES),
+        heads: Vec::with_capacity(EDGES),
+        costs: Vec::with_capacity(EDGES),
+    };
+    for tail in 0..VERTICES {
+        let mut heads = Vec::new();
+        while heads.len() < each {
+            while heads.len() < each {
+                heads.push(random.range32(0, VERTICES - 1));
+            }
+            heads.sort_unstable();
+            heads.dedup();
+        }
+        for head in heads {
+            plan.tails.push(tail);
+            plan.heads.push(head);
+            plan.costs.push(match random.below(3) {
+                0 => random.range32(0, 127),
+                1 => random.range32(128, 16_383),
+                _ => random.range32(16_384, 1_000_000),
+            });
+        }
+    }
+    plan
+}
+
+/// Nanoseconds an edge of one run of `CALLS` calls.
+fn run(mut call: impl FnMut() -> [u64; 4], expected: [u64; 4]) -> f64 {
+    let begin = Instant::now();
+    for _ in 0..CALLS {
+        assert_eq!(black_box(call()), expected);
+    }
+    begin.elapsed().as_nanos() as f64 / f64::from(CALLS) / EDGES as f64
+}
+
+fn median(mut figures: Vec<f64>) -> f64 {
+    figures.sort_by(f64::total_cmp);
+    figures[figures.len() / 2]
+}
+
+/// Times one call on both sides, alternating, and prints a line.
+fn compare(name: &str, mut time: impl FnMut(&dyn Codec) -> f64) {
+    let sides: [&dyn Codec; 2] = [&Library, &Reference];
+    let mut figures = [Vec::new(), Vec::new()];
+    // The first run of each side only warms up.
+    for round in 0..=RUNS {
+        for turn in 0..2 {
+            let side = (round + turn) % 2;
+            let figure = time(sides[side]);
+            if round > 0 {
+                figures[side].push(figure);
+            }
+        }
+    }
+    let [library, reference] = figures.map(median);
+    println!(
+        "{name:<12} {library:>10.3} {reference:>10.3} {:>8.3}",
+        library / reference
+    );
+}
+
+fn main() {
+    println!(
+        "Reading and writing the largest plan ({VERTICES} vertices, {EDGES} edges, costs of one \
+         to three groups): ns per edge, median of {RUNS} alternating runs of {CALLS} calls, \
+         library / second implementation."
+    );
+    println!(
+        "{:<12} {:>10} {:>10} {:>8}",
+        "call", "library", "second", "ratio"
+    );
+    let plan = largest_plan();
+    let mut bytes = vec![0; 7 * EDGES + 6];
+    let written = Reference.write_plan(VERTICES, &plan.tails, &plan.heads, &plan.costs, &mut bytes);
+    assert_eq!(written[..2], [0, 0]);
+    let length = written[2] as usize;
+    bytes.truncate(length);
+    let both = [0, 0, VERTICES.into(), EDGES as u64];
+
+    compare("check_plan", |side| {
+        run(|| side.check_plan(black_box(&bytes)), both)
+    });
+
+    let (mut tails, mut heads, mut costs) = (vec![0; EDGES], vec![0; EDGES], vec![0; EDGES]);
+    compare("read_plan", |side| {
+        run(
+            || side.read_plan(black_box(&bytes), &mut tails, &mut heads, &mut costs),
+            both,
+        )
+    });
+    assert!(tails == plan.tails && heads == plan.heads && costs == plan.costs);
+
+    let mut out = vec![0; length];
+    compare("write_plan", |side| {
+        run(
+            || {
+                side.write_plan(
+                    VERTICES,
+                    black_box(&plan.tails),
+                    &plan.heads,
+                    &plan.costs,
+                    &mut out,
+                )
+            },
+            written,
+        )
+    });
+    assert!(out == bytes);
+}

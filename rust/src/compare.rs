@@ -1,0 +1,422 @@
+//! Running one case on two implementations and comparing the answers and
+//! the whole lent memory, the words around it included.
+
+use crate::ffi::{self, Figures};
+use crate::reference::{self, Refusal};
+
+/// The six calls on plan bytes, each leaving four figures.
+pub trait Codec {
+    fn read_plan_number(&self, bytes: &[u8], at: usize) -> Figures;
+    fn read_job_number(&self, bytes: &[u8], at: usize) -> Figures;
+    fn write_plan_number(&self, out: &mut [u8], at: usize, value: u32) -> Figures;
+    fn check_plan(&self, bytes: &[u8]) -> Figures;
+    fn read_plan(
+        &self,
+        bytes: &[u8],
+        tails: &mut [u32],
+        heads: &mut [u32],
+        costs: &mut [u32],
+    ) -> Figures;
+    fn write_plan(
+        &self,
+        vertices: u32,
+        tails: &[u32],
+        heads: &[u32],
+        costs: &[u32],
+        out: &mut [u8],
+    ) -> Figures;
+}
+
+/// The library under test.
+pub struct Library;
+
+impl Codec for Library {
+    fn read_plan_number(&self, bytes: &[u8], at: usize) -> Figures {
+        ffi::read_plan_number(bytes, at)
+    }
+    fn read_job_number(&self, bytes: &[u8], at: usize) -> Figures {
+        ffi::read_job_number(bytes, at)
+    }
+    fn write_plan_number(&self, out: &mut [u8], at: usize, value: u32) -> Figures {
+        ffi::write_plan_number(out, at, value)
+    }
+    fn check_plan(&self, bytes: &[u8]) -> Figures {
+        ffi::check_plan(bytes)
+    }
+    fn read_plan(
+        &self,
+        bytes: &[u8],
+        tails: &mut [u32],
+        heads: &mut [u32],
+        costs: &mut [u32],
+    ) -> Figures {
+        ffi::read_plan(bytes, tails, heads, costs)
+    }
+    fn write_plan(
+        &self,
+        vertices: u32,
+        tails: &[u32],
+        heads: &[u32],
+        costs: &[u32],
+        out: &mut [u8],
+    ) -> Figures {
+        ffi::write_plan(vertices, tails, heads, costs, out)
+    }
+}
+
+/// The second implementation.
+pub struct Reference;
+
+/// The figures of an answer with two values.
+pub fn two_values<A: TryInto<u64>, B: TryInto<u64>>(answer: Result<(A, B), Refusal>) -> Figures {
+    let figure = |value: Result<u64, ()>| value.expect("a value has at most 64 bits");
+    match answer {
+        Ok((first, second)) => [
+            0,
+            0,
+            figure(first.try_into().map_err(|_| ())),
+            figure(second.try_into().map_err(|_| ())),
+        ],
+        Err(Refusal { number, position }) => [number.into(), position as u64, 0, 0],
+    }
+}
+
+/// The figures of an answer with one value.
+pub fn one_value(answer: Result<usize, Refusal>) -> Figures {
+    two_values(answer.map(|value| (value, 0u64)))
+}
+
+impl Codec for Reference {
+    fn read_plan_number(&self, bytes: &[u8], at: usize) -> Figures {
+        two_values(reference::read_plan_number(bytes, at))
+    }
+    fn read_job_number(&self, bytes: &[u8], at: usize) -> Figures {
+        two_values(reference::read_job_number(bytes, at))
+    }
+    fn write_plan_number(&self, out: &mut [u8], at: usize, value: u32) -> Figures {
+        one_value(reference::write_plan_number(out, at, value))
+    }
+    fn check_plan(&self, bytes: &[u8]) -> Figures {
+        two_values(reference::check_plan(bytes))
+    }
+    fn read_plan(
+        &self,
+        bytes: &[u8],
+        tails: &mut [u32],
+        heads: &mut [u32],
+        costs: &mut [u32],
+    ) -> Figures {
+        two_values(reference::read_plan(bytes, tails, heads, costs))
+    }
+    fn write_plan(
+        &self,
+        vertices: u32,
+        tails: &[u32],
+        heads: &[u32],
+        costs: &[u32],
+        out: &mut [u8],
+    ) -> Figures {
+        one_value(reference::write_plan(vertices, tails, heads, costs, out))
+    }
+}
+
+/// One call with its inputs; `room` is the length of lent memory.
+#[derive(Clone, Debug)]
+pub enum Case {
+    ReadPlanNumber {
+        bytes: Vec<u8>,
+        at: usize,
+    },
+    ReadJobNumber {
+        bytes: Vec<u8>,
+        at: usize,
+    },
+    WritePlanNumber {
+        room: usize,
+        at: usize,
+        value: u32,
+    },
+    CheckPlan {
+        bytes: Vec<u8>,
+    },
+    ReadPlan {
+        bytes: Vec<u8>,
+        room: [usize; 3],
+    },
+    WritePlan {
+        vertices: u32,
+        tails: Vec<u32>,
+        heads: Vec<u32>,
+        costs: Vec<u32>,
+        room: usize,
+    },
+}
+
+/// How many kinds of case there are.
+pub const KINDS: usize = 6;
+
+impl Case {
+    /// The number of this kind of case.
+    pub fn kind(&self) -> usize {
+        match self {
+            Case::ReadPlanNumber { .. } => 0,
+            Case::ReadJobNumber { .. } => 1,
+            Case::WritePlanNumber { .. } => 2,
+            Case::CheckPlan { .. } => 3,
+            Case::ReadPlan { .. } => 4,
+            Case::WritePlan { .. } => 5,
+        }
+    }
+
+    /// A text of bounded length for a failed comparison.
+    pub fn describe(&self) -> String {
+        let mut text = format!("{self:02X?}");
+        if text.len() > 3_000 {
+            text.truncate(3_000);
+            text.push_str("...");
+        }
+        text
+    }
+}
+
+/// Elements of a known pattern before and after lent memory.
+const GUARD: usize = 8;
+
+/// Memory with a pattern in it and around it.
+struct Guarded<T> {
+    all: Vec<T>,
+}
+
+fn byte_pattern(salt: u64, index: usize) -> u8 {
+    (salt as usize)
+        .wrapping_mul(29)
+        .wrapping_add(index.wrapping_mul(37)) as u8
+}
+
+fn word_pattern(salt: u64, index: usize) -> u32 {
+    (salt as u32)
+        .wrapping_mul(0x9E37_79B9)
+        .wrapping_add((index as u32).wrapping_mul(0x0101_0107))
+}
+
+impl<T: Copy> Guarded<T> {
+    fn with_pattern(room: usize, salt: u64, pattern: fn(u64, usize) -> T) -> Self {
+        let all = (0..room + 2 * GUARD)
+            .map(|index| pattern(salt, index))
+            .collect();
+        Guarded { all }
+    }
+
+    fn with_contents(contents: &[T], salt: u64, pattern: fn(u64, usize) -> T) -> Self {
+        let mut guarded = Guarded::with_pattern(contents.len(), salt, pattern);
+        guarded.lent_mut().copy_from_slice(contents);
+        guarded
+    }
+
+    fn lent(&self) -> &[T] {
+        &self.all[GUARD..self.all.len() - GUARD]
+    }
+
+    fn lent_mut(&mut self) -> &mut [T] {
+        let end = self.all.len() - GUARD;
+        &mut self.all[GUARD..end]
+    }
+}
+
+/// A call's figures and all the memory it was lent, guards included.
+#[derive(Clone, Debug, PartialEq, Eq)]
+pub struct Outcome {
+    pub figures: Figures,
+    pub bytes: Vec<Vec<u8>>,
+    pub words: Vec<Vec<u32>>,
+}
+
+/// Runs a case; `salt` selects the pattern that fills the memory.
+pub fn run(codec: &dyn Codec, case: &Case, salt: u64) -> Outcome {
+    let bytes_of = |contents: &[u8]| Guarded::with_contents(contents, salt, byte_pattern);
+    let words_of = |contents: &[u32]| Guarded::with_contents(contents, salt, word_pattern);
+    let empty_bytes = |room| Guarded::with_pattern(room, salt, byte_pattern);
+    let empty_words = |room, list| Guarded::with_pattern(room, salt + list, word_pattern);
+    match case {
+        Case::ReadPlanNumber { bytes, at } => {
+            let bytes = bytes_of(bytes);
+            let figures = codec.read_plan_number(bytes.lent(), *at);
+            Outcome {
+                figures,
+                bytes: vec![bytes.all],
+                words: vec![],
+            }
+        }
+        Case::ReadJobNumber { bytes, at } => {
+            let bytes = bytes_of(bytes);
+            let figures = codec.read_job_number(bytes.lent(), *at);
+            Outcome {
+                figures,
+                bytes: vec![bytes.all],
+                words: vec![],
+            }
+        }
+        Case::WritePlanNumber { room, at, value } => {
+            let mut out = empty_bytes(*room);
+            let figures = codec.write_plan_number(out.lent_mut(), *at, *value);
+            Outcome {
+                figures,
+                bytes: vec![out.all],
+                words: vec![],
+            }
+        }
+        Case::CheckPlan { bytes } => {
+            let bytes = bytes_of(bytes);
+            let figures = codec.check_plan(bytes.lent());
+            Outcome {
+                figures,
+                bytes: vec![bytes.all],
+                words: vec![],
+            }
+        }
+        Case::ReadPlan { bytes, room } => {
+            let bytes = bytes_of(bytes);
+            let mut tails = empty_words(room[0], 1);
+            let mut heads = empty_words(room[1], 2);
+            let mut costs = empty_words(room[2], 3);
+            let figures = codec.read_plan(
+                bytes.lent(),
+                tails.lent_mut(),
+                heads.lent_mut(),
+                costs.lent_mut(),
+            );
+            Outcome {
+                figures,
+                bytes: vec![bytes.all],
+                words: vec![tails.all, heads.all, costs.all],
+            }
+        }
+        Case::WritePlan {
+            vertices,
+            tails,
+            heads,
+            costs,
+            room,
+        } => {
+            let (tails, heads, costs) = (words_of(tails), words_of(heads), words_of(costs));
+            let mut out = empty_bytes(*room);
+            let figures = codec.write_plan(
+                *vertices,
+                tails.lent(),
+                heads.lent(),
+                costs.lent(),
+                out.lent_mut(),
+            );
+            Outcome {
+                figures,
+                bytes: vec![out.all],
+                words: vec![tails.all, heads.all, costs.all],
+            }
+        }
+    }
+}
+
+/// Compares two implementations case by case and counts what was seen.
+pub struct Comparison<'a> {
+    left: &'a dyn Codec,
+    right: &'a dyn Codec,
+    /// Cases by kind and refusal number, as the right side answers.
+    pub tally: [[u64; 16]; KINDS],
+    /// All cases.
+    pub cases: u64,
+    /// Cases whose answer was known from their making.
+    pub known: u64,
+}
+
+impl<'a> Comparison<'a> {
+    pub fn new(left: &'a dyn Codec, right: &'a dyn Codec) -> Self {
+        Comparison {
+            left,
+            right,
+            tally: [[0; 16]; KINDS],
+            cases: 0,
+            known: 0,
+        }
+    }
+
+    /// Runs one case on both sides; gives a text if they differ, or if the
+    /// left side differs from the answer known from the case's making.
+    pub fn differs(&mut self, case: &Case, known: Option<Figures>) -> Option<String> {
+        let left = run(self.left, case, self.cases);
+        let right = run(self.right, case, self.cases);
+        self.cases += 1;
+        self.tally[case.kind()][(right.figures[0] as usize).min(15)] += 1;
+        if let Some(known) = known {
+            self.known += 1;
+            if left.figures != known {
+                return Some(format!(
+                    "answer {:?}, by its making {known:?}: {}",
+                    left.figures,
+                    case.describe()
+                ));
+            }
+        }
+        if left.figures != right.figures {
+            return Some(format!(
+                "answers {:?} and {:?}: {}",
+                left.figures,
+                right.figures,
+                case.describe()
+            ));
+        }
+        if left != right {
+            return Some(format!(
+                "same answer {:?}, different memory: {}",
+                left.figures,
+                case.describe()
+            ));
+        }
+        None
+    }
+
+    /// Runs one case on both sides and panics if they differ.
+    pub fn must_agree(&mut self, case: &Case, known: Option<Figures>) {
+        if let Some(text) = self.differs(case, known) {
+            panic!("case {}: {text}", self.cases - 1);
+        }
+    }
+}
+
+#[cfg(test)]
+mod tests {
+    use super::*;
+
+    #[test]
+    fn an_outcome_holds_the_guards() {
+        let case = Case::ReadPlan {
+            bytes: vec![1, 0],
+            room: [0, 1, 5],
+        };
+        let outcome = run(&Reference, &case, 3);
+        assert_eq!(outcome.figures, [0, 0, 1, 0]);
+        let lengths: Vec<usize> = outcome.words.iter().map(Vec::len).collect();
+        assert_eq!(lengths, [2 * GUARD, 2 * GUARD + 1, 2 * GUARD + 5]);
+        assert_eq!(outcome.bytes[0].len(), 2 * GUARD + 2);
+        for index in 0..GUARD {
+            let mut changed = outcome.clone();
+            changed.words[1][index] ^= 1;
+            assert_ne!(changed, outcome);
+            let mut changed = outcome.clone();
+            changed.words[2][GUARD + 5 + index] ^= 1;
+            assert_ne!(changed, outcome);
+        }
+    }
+
+    #[test]
+    fn the_pattern_changes_from_case_to_case() {
+        let case = Case::WritePlanNumber {
+            room: 3,
+            at: 9,
+            value: 0,
+        };
+        let (first, second) = (run(&Reference, &case, 0), run(&Reference, &case, 1));
+        assert_eq!(first.figures, second.figures);
+        let pairs = first.bytes[0].iter().zip(&second.bytes[0]);
+        assert!(pairs.into_iter().all(|(left, right)| left != right));
+    }
+}

@@ -1,0 +1,10 @@
+//! A second implementation of the plan bytes and of the route planner,
+//! written from the paper alone, and what is needed to compare the library
+//! under test with it.
+
+pub mod compare;
+pub mod ffi;
+pub mod generate;
+pub mod planner;
+pub mod random;
+pub mod reference;

@@ -1,0 +1,290 @@
+//! The comparison finds planted faults: each faulty implementation below
+//! differs from the second implementation in one way, and the streams of the
+//! differential tests, at a fraction of their length, must find it.
+
+use secondcoop_tests::compare::{Codec, Comparison, Reference};
+use secondcoop_tests::ffi::Figures;
+use secondcoop_tests::generate;
+
+/// What is wrong.
+#[derive(Clone, Copy, Debug, PartialEq, Eq)]
+enum Fault {
+    /// Nothing: the comparison must find nothing.
+    None,
+    /// A number that is not shortest is read.
+    NotShortest,
+    /// The offset of a number's last byte instead of its first.
+    LastByte,
+    /// A job number of 33 bits is read, cut to 32.
+    JobNumberOf33Bits,
+    /// A job number of six groups is read.
+    SixGroups,
+    /// No room counts before a number too large.
+    RoomBeforeValue,
+    /// One byte is written where two have no room.
+    HalfANumber,
+    /// V and M change places.
+    Swapped,
+    /// A vertex count of 4,097 passes.
+    VertexLimit,
+    /// An edge count out of range is refusal 2.
+    EdgeLimit,
+    /// A cost of 1,000,001 passes.
+    CostLimit,
+    /// A tail out of range stands at the head.
+    TailPosition,
+    /// A head out of order is refusal 4.
+    HeadOrder,
+    /// Bytes left over pass.
+    LeftOver,
+    /// Lists too short count before bytes left over.
+    ListsBeforeEnd,
+    /// A refused plan leaves words in the lists.
+    ListsAtRefusal,
+    /// A list longer than M gets one word more.
+    ListBeyond,
+    /// The last list's word is wrong.
+    LastCost,
+    /// Unequal lists are cut to the shortest.
+    UnequalLists,
+    /// The writer refuses a head out of order as a cost.
+    WriterOrder,
+    /// The writer's position is one too high.
+    WriterPosition,
+    /// The writer begins to write where it has no room.
+    OutputAtRefusal,
+    /// The writer clears the byte after the last.
+    OutputBeyond,
+}
+
+const FAULTS: [Fault; 22] = [
+    Fault::NotShortest,
+    Fault::LastByte,
+    Fault::JobNumberOf33Bits,
+    Fault::SixGroups,
+    Fault::RoomBeforeValue,
+    Fault::HalfANumber,
+    Fault::Swapped,
+    Fault::VertexLimit,
+    Fault::EdgeLimit,
+    Fault::CostLimit,
+    Fault::TailPosition,
+    Fault::HeadOrder,
+    Fault::LeftOver,
+    Fault::ListsBeforeEnd,
+    Fault::ListsAtRefusal,
+    Fault::ListBeyond,
+    Fault::LastCost,
+    Fault::UnequalLists,
+    Fault::WriterOrder,
+    Fault::WriterPosition,
+    Fault::OutputAtRefusal,
+    Fault::OutputBeyond,
+];
+
+struct Faulty(Fault);
+
+impl Codec for Faulty {
+    fn read_plan_number(&self, bytes: &[u8], at: usize) -> Figures {
+        let answer = Reference.read_plan_number(bytes, at);
+        match (self.0, answer[0], bytes.get(at..)) {
+            (Fault::NotShortest, 1, Some(&[a, 0, ..])) if a >= 128 => {
+                [0, 0, u64::from(a) - 128, at as u64 + 2]
+            }
+            (Fault::LastByte, 1, Some(&[128..=255, 0, ..])) => [1, at as u64 + 1, 0, 0],
+            _ => answer,
+        }
+    }
+
+    fn read_job_number(&self, bytes: &[u8], at: usize) -> Figures {
+        let answer = Reference.read_job_number(bytes, at);
+        match (self.0, answer[0], bytes.get(at..)) {
+            (
+                Fault::JobNumberOf33Bits,
+                1,
+                Some(
+                    &[a @ 128..=255, b @ 128..=255, c @ 128..=255, d @ 128..=255, e @ 16..=31, ..],
+                ),
+            ) => {
+                let mut value = 0u32;
+                for (index, byte) in [a, b, c, d, e].into_iter().enumerate() {
+                    value |= u32::from(byte % 128) << (7 * index);
+                }
+                [0, 0, value.into(), at as u64 + 5]
+            }
+            (
+                Fault::SixGroups,
+                1,
+                Some(&[128..=255, 128..=255, 128..=255, 128..=255, 128..=255, 1..=127, ..]),
+            ) => [0, 0, 0, at as u64 + 6],
+            _ => answer,
+        }
+    }
+
+    fn write_plan_number(&self, out: &mut [u8], at: usize, value: u32) -> Figures {
+        let answer = Reference.write_plan_number(out, at, value);
+        match self.0 {
+            Fault::RoomBeforeValue if answer[0] == 1 && at >= out.len() => [11, 0, 0, 0],
+            Fault::HalfANumber if answer[0] == 11 && at < out.len() => {
+                out[at] = value as u8 | 128;
+                answer
+            }
+            _ => answer,
+        }
+    }
+
+    fn check_plan(&self, bytes: &[u8]) -> Figures {
+        let answer = Reference.check_plan(bytes);
+        let [number, position, first, second] = answer;
+        let at = position as usize;
+        let changed = |from: usize, to: usize, with: &[u8]| {
+            let mut bytes = bytes.to_vec();
+            bytes.splice(from..to, with.iter().copied());
+            Reference.check_plan(&bytes)
+        };
+        match self.0 {
+            Fault::Swapped => [number, position, second, first],
+            Fault::VertexLimit if number == 2 && bytes.starts_with(&[0x81, 0x20]) => {
+                changed(0, 2, &[0x80, 0x20])
+            }
+            Fault::EdgeLimit if number == 3 => [2, position, 0, 0],
+            Fault::CostLimit if number == 5 && bytes[at..].starts_with(&[0xC1, 0x84, 0x3D]) => {
+                changed(at, at + 3, &[0xC0, 0x84, 0x3D])
+            }
+            Fault::TailPosition if number == 4 => [4, position + 1, 0, 0],
+            Fault::HeadOrder if number == 6 => [4, position, 0, 0],
+            Fault::LeftOver if number == 7 => Reference.check_plan(&bytes[..at]),
+            _ => answer,
+        }
+    }
+
+    fn read_plan(
+        &self,
+        bytes: &[u8],
+        tails: &mut [u32],
+        heads: &mut [u32],
+        costs: &mut [u32],
+    ) -> Figures {
+        let answer = Reference.read_plan(bytes, tails, heads, costs);
+        let edges = answer[3] as usize;
+        match self.0 {
+            Fault::ListsBeforeEnd if answer[0] == 7 => {
+                let before = &bytes[..answer[1] as usize];
+                let mut lists = [
+                    vec![0; tails.len()],
+                    vec![0; heads.len()],
+                    vec![0; costs.len()],
+                ];
+                let [tails, heads, costs] = &mut lists;
+                let shorter = Reference.read_plan(before, tails, heads, costs);
+                if shorter[0] == 11 {
+                    return shorter;
+                }
+            }
+            Fault::ListsAtRefusal if answer[0] > 0 => {
+                if let Some(word) = tails.first_mut() {
+                    *word = 0;
+                }
+            }
+            Fault::ListBeyond if answer[0] == 0 => {
+                if let Some(word) = heads.get_mut(edges) {
+                    *word = 0;
+                }
+            }
+            Fault::LastCost if answer[0] == 0 && edges > 5 => costs[edges - 1] ^= 1 << 16,
+            _ => {}
+        }
+        answer
+    }
+
+    fn write_plan(
+        &self,
+        vertices: u32,
+        tails: &[u32],
+        heads: &[u32],
+        costs: &[u32],
+        out: &mut [u8],
+    ) -> Figures {
+        let answer = Reference.write_plan(vertices, tails, heads, costs, out);
+        let [number, position, count, _] = answer;
+        match self.0 {
+            Fault::UnequalLists if number == 3 => {
+                let edges = tails.len().min(heads.len()).min(costs.len());
+                return Reference.write_plan(
+                    vertices,
+                    &tails[..edges],
+                    &heads[..edges],
+                    &costs[..edges],
+                    out,
+                );
+            }
+            Fault::WriterOrder if number == 6 && costs[position as usize] > 1_000_000 => {
+                return [5, position, 0, 0];
+            }
+            Fault::WriterPosition if number == 5 => return [5, position + 1, 0, 0],
+            Fault::OutputAtRefusal if number == 11 && !out.is_empty() => out[0] ^= 1,
+            Fault::OutputBeyond if number == 0 => {
+                if let Some(byte) = out.get_mut(count as usize) {
+                    *byte ^= 255;
+                }
+            }
+            _ => {}
+        }
+        answer
+    }
+}
+
+/// Runs all streams, shortened, up to the first case that differs; gives
+/// whether there is one and the number of cases run.
+fn found(fault: Fault) -> (u64, u64) {
+    let faulty = Faulty(fault);
+    let mut comparison = Comparison::new(&faulty, &Reference);
+    let mut differing = 0;
+    let mut check = |case, known| {
+        // The answer known from a case's making is left aside: the
+        // comparison alone must find the fault.
+        let _ = known;
+        if differing == 0 {
+            differing += u64::from(comparison.differs(&case, None).is_some());
+        }
+    };
+    generate::numbers(21, 5_000, &mut check);
+    generate::written_numbers(22, 2_000, &mut check);
+    generate::valid_plans(23, 64, &mut check);
+    generate::damaged_plans(24, 3_000, &mut |_, _| (), &mut check);
+    generate::truncations(25, 50, &mut check);
+    generate::random_bytes(26, 3_000, &mut check);
+    generate::changed_bytes(27, 3_000, &mut check);
+    generate::damaged_lists(28, 3_000, &mut check);
+    generate::random_lists(29, 3_000, &mut check);
+    generate::short_numbers(&mut check);
+    (differing, comparison.cases)
+}
+
+#[test]
+fn each_planted_fault_is_found() {
+    for fault in FAULTS {
+        let (differing, cases) = found(fault);
+        assert!(differing > 0, "{fault:?} is not found in {cases} cases");
+    }
+}
+
+#[test]
+fn nothing_is_found_where_nothing_is_planted() {
+    let (differing, cases) = found(Fault::None);
+    assert_eq!(differing, 0);
+    assert!(cases > 150_000);
+}
+
+/// An answer that contradicts a case's making is found even where both sides
+/// give it.
+#[test]
+fn the_known_answer_is_compared_too() {
+    let faulty = Faulty(Fault::CostLimit);
+    let mut comparison = Comparison::new(&faulty, &faulty);
+    let mut differing = 0;
+    generate::damaged_plans(24, 3_000, &mut |_, _| (), &mut |case, known| {
+        differing += u64::from(comparison.differs(&case, known).is_some());
+    });
+    assert!(differing > 0);
+}
