@@ -1,6 +1,6 @@
 -- Laws of measuring: an edge, and edges one by one, through their rows, with the bytes counted.
 -- Assumes nothing.
-use Prim.Native.Nat.{ℕ, suc, _+_, _-_, _*_, _≤_, _<_}
+use Prim.Native.Nat.{ℕ, _+_, _-_, _*_, _≤_, _<_}
 use native.Mathlib.Omega.{arith}
 use native.Mathlib.Numerals.{add-one}
 use mathlib.Core.Path.{_≡_, refl, sym, ap, _∙_}
@@ -26,6 +26,7 @@ use Rattle.graph.specs.Lists.{fault, edgesOf, edgeRows, edgesFault, edge
 use Rattle.graph.specs.Writing.{Equal, edgeAt, falls, edgeMeasured, measured, edgesMeasured}
 use Rattle.graph.proofs.Tests.{or-left}
 use Rattle.graph.proofs.Rows.{through-clear}
+use Rattle.graph.proofs.OneEdge.{next≢fault}
 
 -- ---- row 6
 
@@ -170,9 +171,6 @@ module _ (v : ℕ) (c : Cursor) (i : ℕ) (e : Edge) (es : List Edge) where
   unfolding measuredOn
   measured-refused n p h = measured-step ∙ ap (measuredOn (λ (d : Cursor). edgesMeasured v d (i + 1) es)) h
 
-next≢fault : {e : Edge} {c : Cursor} {n p : ℕ} → Fault n p ≡ Next e c → ⊥
-next≢fault h = let z : _≡_ {A = ℕ} 0 1 = cc in omega arith
-
 pub measured-few : (v : ℕ) (c : Cursor) (i : ℕ) (e d : Edge) (c′ : Cursor) → edgeMeasured v c i e ≡ Next d c′ → c′ .at ≤ c .at + 9
 unfolding edgeMeasured past
 measured-few v c i e d c′ h =
@@ -189,8 +187,12 @@ pub record Measuring (v : ℕ) (ts hs cs : List ℕ) (start : ℕ) (c : Cursor) 
   pub few : c .at ≤ start + 9 * i
   pub same : edgesMeasured v c i (rest ts hs cs i) ≡ edgesMeasured v (firstAt start) 0 (edgesOf ts hs cs)
 
-pub measuring-first : (v : ℕ) (ts hs cs : List ℕ) (start : ℕ) → Measuring v ts hs cs start (firstAt start) 0
-measuring-first v ts hs cs start = record { few = omega arith; same = refl }
+pub measuring-first : (v : ℕ) (ts hs cs : List ℕ) (start : ℕ) (c : Cursor) → c ≡ firstAt start → Measuring v ts hs cs start c 0
+measuring-first v ts hs cs start c e =
+    record {
+      few = omega (arith, ap (λ (x : Cursor). x .at) e);
+      same = ap (λ (x : Cursor). edgesMeasured v x 0 (edgesOf ts hs cs)) e;
+    }
 
 module _ {v : ℕ} {ts hs cs : List ℕ} {start : ℕ} {c : Cursor} {i : ℕ} (m : Measuring v ts hs cs start c i) where
   pub measuring-end : length ts ≤ i → Count (c .at) ≡ edgesMeasured v (firstAt start) 0 (edgesOf ts hs cs)

@@ -4,23 +4,23 @@ use Prim.Native.Nat.{ℕ, suc, _+_, _^_, _≤_, _<_}
 use native.Mathlib.Omega.{arith}
 use mathlib.Core.Path.{_≡_, refl, sym, ap, _∙_}
 use mathlib.Core.List.{List, [], _∷_, _++_, append-assoc}
-use lib.ListN.{length, drop, length-append, length-map}
-use lib.Seq.{sets, length-sets, sets-eq}
-use lib.Dec.{ltb}
-use borrow.Author.Tests.{ltb-false, leb-false, lt-ltb, le-ltb, le-leb, lt-leb, eq-eqb, ne-eqb}
+use lib.ListN.{length, length-append, length-map}
+use lib.Seq.{sets, length-sets}
+use borrow.Author.Tests.{lt-ltb, le-ltb, le-leb, lt-leb, eq-eqb, ne-eqb}
 use Rattle.leb128.specs.Number.{encode, planGroups}
 use Rattle.graph.specs.declared.Edge.{Edge}
 use Rattle.graph.specs.declared.PlanWritten.{PlanWritten}
 use Rattle.graph.specs.declared.PlanWritten.the-variants.{Count, Rejected}
-use Rattle.graph.specs.Limits.{maxVertices, maxEdges, maxCost}
+use Rattle.graph.specs.Limits.{maxVertices, maxEdges}
 use Rattle.graph.specs.Rows.{through, vertexCountRows}
 use Rattle.graph.specs.Plan.{firstAt}
 use Rattle.graph.specs.Lists.{over, Fault, none, fault, edgesOf, listRows, edgeRows, edgesFault, writeFault, edgesBytes, bytesOf, writtenAs, writeAnswer, outAfter}
 use Rattle.graph.specs.Writing.{Equal, measured, edgesMeasured, planMeasured, LayableEdge, Layable, EdgesFit, PlanFits}
-use Rattle.graph.proofs.Tests.{or-left}
 use Rattle.graph.proofs.Rows.{Passes}
+use Rattle.graph.proofs.OneEdge.{passes-within, passes-from}
 use Rattle.graph.proofs.Plan.{edge-clear}
 use Rattle.graph.proofs.OneForm.{columns, Takes, takes}
+use Rattle.graph.proofs.Filling.{sets-front}
 use Rattle.graph.proofs.Laying.{sets-append, Laid}
 
 -- ---- V and the lists measured
@@ -84,29 +84,22 @@ module _ (v : ℕ) (ts hs cs : List ℕ) where
 
 -- ---- the whole plan laid
 
-module _ (v t l : ℕ) (e : Edge) (few : v ≤ maxVertices) (p : Passes (edgeRows v t l e)) where
-  passed-layable : LayableEdge t e
-  unfolding edgeRows planGroups
-  passed-layable =
-      record {
-        rises = ltb-false (e .tail) t (or-left (ltb (e .tail) t) _ (p .1 .1 .0));
-        tail = omega (arith, leb-false v (e .tail) (p .0));
-        head = omega (arith, leb-false v (e .head) (p .1 .0));
-        cost = omega (arith, ltb-false maxCost (e .cost) (p .1 .1 .1 .0));
-      }
+passed-layable : (v t l : ℕ) (e : Edge) → v ≤ maxVertices → Passes (edgeRows v t l e) → LayableEdge t e
+unfolding planGroups
+passed-layable v t l e few p =
+    let w = passes-within v t l e p in
+    record {
+      rises = passes-from v t l e p .rising;
+      tail = omega (arith, w .tail);
+      head = omega (arith, w .head);
+      cost = omega (arith, w .cost);
+    }
 
 pub passed-edges : (v : ℕ) → v ≤ maxVertices → (es : List Edge) (t l i : ℕ) → edgesFault v t l i es ≡ none → Layable t es
 passed-edges v few [] t l i h = tt
 passed-edges v few (e ∷ es) t l i h =
     let q = edge-clear v t l i e es h in
     (passed-layable v t l e few (q .0), passed-edges v few es (e .tail) (e .head + 1) (suc i) (q .1))
-
--- what is laid at the front lies over what was there
-pub sets-over : (bytes out : List ℕ) → length bytes ≤ length out → sets out 0 bytes ≡ over bytes out
-unfolding over
-sets-over bytes out h =
-    let n : 0 + length bytes ≡ length bytes = omega arith in
-    sets-eq bytes out 0 (omega arith) ∙ ap (λ (k : ℕ). bytes ++ drop k out) n
 
 module _ {v : ℕ} {ts hs cs out : List ℕ} (f : PlanFits out v ts hs cs) where
   abbrev es : List Edge
@@ -159,7 +152,7 @@ module _ {v : ℕ} {ts hs cs out : List ℕ} (f : PlanFits out v ts hs cs) where
         ∙ ap (λ (k : ℕ). sets (sets out 0 headerBytes) k (edgesBytes 0 es)) (d .offset)
         ∙ sym (sets-append out 0 headerBytes (edgesBytes 0 es))
         ∙ ap (sets out 0) (sym plan-bytes)
-        ∙ sets-over (bytesOf v es) out (f .room)
+        ∙ sets-front (bytesOf v es) out (f .room)
 
 -- ---- the answer, and the output after it
 

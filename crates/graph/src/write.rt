@@ -75,11 +75,7 @@ fn measure_edges(
     requires { ⌜ Equal (now tails) (now heads) (now costs) × (length (now tails) ≤ maxEdges) × (start ≤ 6) ⌝ }
     ensures { λ r. ⌜ r ≡ edgesMeasured vertices (firstAt start) 0 (edgesOf (now (tails .entry)) (now (heads .entry)) (now (costs .entry))) ⌝ }
 {
-    let mut cursor = Cursor {
-        at: start,
-        tail: 0,
-        least: 0,
-    };
+    let mut cursor = Cursor::first(start);
     let mut i = 0;
     while i < tails.len() {
         let edge = edge_at(tails, heads, costs, i);

@@ -3,8 +3,6 @@ use Rattle.graph.proofs.Measuring.{falls-as-one}
 use borrow.Author.Needs.{needs}
 use Rattle.graph.proofs.write.falls_behind.Statement.{statement}
 use Rattle.graph.proofs.write.falls_behind.Tie as tie
-use Rattle.graph.proofs.write.falls_behind.Reads as reads
-use Rattle.graph.proofs.write.falls_behind.Lts as lts
 
 cast-found : tie.Need-cast-found
 cast-found c = search needs

@@ -5,10 +5,6 @@ use Rattle.graph.proofs.Writer.{taken, vertices-small, vertices-room, c
 use borrow.Author.Needs.{needs}
 use Rattle.graph.proofs.write.lay.Statement.{statement}
 use Rattle.graph.proofs.write.lay.Tie as tie
-use Rattle.graph.proofs.write.lay.Reads as reads
-use Rattle.graph.proofs.write.lay.Lts as lts
-use Rattle.graph.proofs.write.lay_edges.Reads as lay-edges-reads
-use Rattle.leb128.proofs.write_plan_number.Reads as write-plan-number-reads
 
 cast-count : tie.Need-cast-count
 cast-count c = omega (arith, taken (c .before .before .before .before .pre) .edges)

@@ -3,9 +3,6 @@ use Rattle.graph.proofs.Laying.{laid-none, laid-never, laid-number, ris
 use borrow.Author.Needs.{needs}
 use Rattle.graph.proofs.write.lay_edge.Statement.{statement}
 use Rattle.graph.proofs.write.lay_edge.Tie as tie
-use Rattle.graph.proofs.write.lay_edge.Reads as reads
-use Rattle.graph.proofs.write.lay_edge.Lts as lts
-use Rattle.leb128.proofs.write_plan_number.Reads as write-plan-number-reads
 
 sub-rise : tie.Need-sub-rise
 sub-rise c = search needs

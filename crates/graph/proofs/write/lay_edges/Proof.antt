@@ -5,10 +5,6 @@ use Rattle.graph.proofs.Laying.{Laying, laying-first, laying-end, edge-
 use borrow.Author.Needs.{needs}
 use Rattle.graph.proofs.write.lay_edges.Statement.{statement}
 use Rattle.graph.proofs.write.lay_edges.Tie as tie
-use Rattle.graph.proofs.write.lay_edges.Reads as reads
-use Rattle.graph.proofs.write.lay_edges.Lts as lts
-use Rattle.graph.proofs.write.edge_at.Reads as edge-at-reads
-use Rattle.graph.proofs.write.lay_edge.Reads as lay-edge-reads
 
 abbrev Inv-loop : tie.InvT-loop
 Inv-loop tails heads costs out₀ start at₀ tail₀ i₀ out at tail i = (i ≤ length tails) × Laying tails heads costs out₀ start out at tail i

@@ -8,10 +8,6 @@ use Rattle.graph.proofs.Writer.{none-refused, many-refused, long-refuse
 use borrow.Author.Needs.{needs}
 use Rattle.graph.proofs.write.measure.Statement.{statement}
 use Rattle.graph.proofs.write.measure.Tie as tie
-use Rattle.graph.proofs.write.measure.Reads as reads
-use Rattle.graph.proofs.write.measure.Lts as lts
-use Rattle.graph.proofs.write.measure_edges.Reads as measure-edges-reads
-use Rattle.leb128.proofs.plan_number_len.Reads as plan-number-len-reads
 
 returns : tie.Need-returns
 returns c = none-refused _ _ _ _ (c .if1 .taken)

@@ -1,14 +1,10 @@
 -- `measure_edge` meets its contract: row by row, then the lengths of its three numbers. Assumes nothing.
 use native.Mathlib.Omega.{arith}
-use mathlib.Core.Path.{_≡_, sym, ap, _∙_}
+use mathlib.Core.Path.{sym, _∙_}
 use Rattle.graph.proofs.Measuring.{edge-length, edge-few, tail-refused, head-refused, order-refused, cost-refused, edge-passed, not-falling}
 use borrow.Author.Needs.{needs}
 use Rattle.graph.proofs.write.measure_edge.Statement.{statement}
 use Rattle.graph.proofs.write.measure_edge.Tie as tie
-use Rattle.graph.proofs.write.measure_edge.Reads as reads
-use Rattle.graph.proofs.write.measure_edge.Lts as lts
-use Rattle.graph.proofs.write.falls_behind.Reads as falls-behind-reads
-use Rattle.leb128.proofs.plan_number_len.Reads as plan-number-len-reads
 
 returns : tie.Need-returns
 returns c = tail-refused _ _ _ _ (c .if1 .taken)

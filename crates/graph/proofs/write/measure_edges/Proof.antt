@@ -7,10 +7,6 @@ use Rattle.graph.proofs.Measuring.{Measuring, measuring-first, measurin
 use borrow.Author.Needs.{needs}
 use Rattle.graph.proofs.write.measure_edges.Statement.{statement}
 use Rattle.graph.proofs.write.measure_edges.Tie as tie
-use Rattle.graph.proofs.write.measure_edges.Reads as reads
-use Rattle.graph.proofs.write.measure_edges.Lts as lts
-use Rattle.graph.proofs.write.edge_at.Reads as edge-at-reads
-use Rattle.graph.proofs.write.measure_edge.Reads as measure-edge-reads
 
 abbrev Inv-loop : tie.InvT-loop
 Inv-loop vertices tails heads costs start cursor₀ i₀ cursor i = (i ≤ length tails) × Measuring vertices tails heads costs start cursor i
@@ -18,11 +14,14 @@ Inv-loop vertices tails heads costs start cursor₀ i₀ cursor i = (i ≤ lengt
 abbrev μ-loop : tie.MeasureT-loop
 μ-loop vertices tails heads costs start cursor₀ i₀ cursor i = length tails - i
 
+first-requires : tie.Need-first-requires Inv-loop μ-loop
+first-requires c κs = search needs
+
 loop-holds : tie.Need-loop-holds Inv-loop μ-loop
-loop-holds c = (search needs, measuring-first _ _ _ _ _)
+loop-holds c = (search needs, measuring-first _ _ _ _ _ _ (c .first .ensures))
 
 edge-at-requires : tie.Need-edge-at-requires Inv-loop μ-loop
-edge-at-requires c κs = (c .before .before .before .before .before .pre .0, c .loop-test .taken)
+edge-at-requires c κs = (c .before .before .before .before .before .before .pre .0, c .loop-test .taken)
 
 measure-edge-requires : tie.Need-measure-edge-requires Inv-loop μ-loop
 measure-edge-requires c κs = omega (arith, c .before .before .loop .inv .1 .few)
@@ -35,7 +34,7 @@ enum-known-n c = search needs
 
 returns : tie.Need-returns Inv-loop μ-loop
 returns c =
-    measuring-refused (c .before .before .before .before .before .before .loop .inv .1) (c .before .before .before .before .before .before .before .before .before .before .pre .0) (c .before .before .before .before .before .loop-test .taken) (c .before .before .before .before .edge-at .ensures)
+    measuring-refused (c .before .before .before .before .before .before .loop .inv .1) (c .before .before .before .before .before .before .before .before .before .before .before .pre .0) (c .before .before .before .before .before .loop-test .taken) (c .before .before .before .before .edge-at .ensures)
     (sym (c .before .before .before .measure-edge .ensures) ∙ c .before .n .given .1)
 
 add-i : tie.Need-add-i Inv-loop μ-loop
@@ -47,7 +46,7 @@ loop-less c = search needs
 loop-again : tie.Need-loop-again Inv-loop μ-loop
 loop-again c = (
   search needs,
-  measuring-next (c .before .before .before .before .before .before .loop .inv .1) (c .before .before .before .before .before .before .before .before .before .before .pre .0) (c .before .before .before .before .before .loop-test .taken) (c .before .before .before .before .edge-at .ensures)
+  measuring-next (c .before .before .before .before .before .before .loop .inv .1) (c .before .before .before .before .before .before .before .before .before .before .before .pre .0) (c .before .before .before .before .before .loop-test .taken) (c .before .before .before .before .edge-at .ensures)
       (sym (c .before .before .before .measure-edge .ensures) ∙ c .before .past .given .1),
 )
 
@@ -60,6 +59,7 @@ measure-edges-spec =
     (tie.spec
     Inv-loop
     μ-loop
+    first-requires
     loop-holds
     edge-at-requires
     measure-edge-requires

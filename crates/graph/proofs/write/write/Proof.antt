@@ -3,10 +3,6 @@ use Rattle.graph.proofs.Writer.{answers-fault, plan-fits, answers-short
 use borrow.Author.Needs.{needs}
 use Rattle.graph.proofs.write.write.Statement.{statement}
 use Rattle.graph.proofs.write.write.Tie as tie
-use Rattle.graph.proofs.write.write.Reads as reads
-use Rattle.graph.proofs.write.write.Lts as lts
-use Rattle.graph.proofs.write.lay.Reads as lay-reads
-use Rattle.graph.proofs.write.measure.Reads as measure-reads
 
 measure-requires : tie.Need-measure-requires
 measure-requires c κs = search needs
