@@ -43,7 +43,7 @@ empty [] h = refl
 empty (e ∷ es) h = absurd (omega arith)
 
 -- stored from the front on is laid over
-sets-front : (new old : List ℕ) → length new ≤ length old → sets old 0 new ≡ over new old
+pub sets-front : (new old : List ℕ) → length new ≤ length old → sets old 0 new ≡ over new old
 unfolding over
 sets-front new old room =
     let z : 0 + length new ≡ length new = omega arith in

@@ -7,3 +7,6 @@ pub mod Filling
 pub mod Plan
 pub mod Within
 pub mod OneForm
+pub mod Measuring
+pub mod Laying
+pub mod Writer

@@ -1,23 +1,23 @@
 -- Exactly one byte form for each plan.
 -- Assumes nothing.
-use Prim.Native.Nat.{ℕ, zero, suc, _+_, _-_, _≤_, _<_}
+use Prim.Native.Nat.{ℕ, _-_, _≤_}
 use native.Mathlib.Omega.{arith}
-use mathlib.Core.Path.{_≡_, refl, sym, ap, _∙_, subst}
-use mathlib.Core.Bool.{Bool, true, false, not, _&&_, _||_}
-use mathlib.Core.List.{List, [], _∷_, _++_, map, List·Memᴰ}
+use mathlib.Core.Path.{_≡_, refl, sym, ap, _∙_}
+use mathlib.Core.Bool.{false, not}
+use mathlib.Core.List.{List, [], _∷_, _++_}
 use lib.ListN.{length, length-map}
-use lib.Dec.{ltb, leb, eqb}
-use borrow.Author.Tests.{ltb-false, le-ltb, eqb-true, eqb-false, eq-eqb, ne-eqb, not-true, not-false}
+use lib.Dec.{ltb, eqb}
+use borrow.Author.Tests.{ltb-false, le-ltb, eqb-true, eqb-false, eq-eqb, ne-eqb, not-false}
 use Rattle.leb128.specs.Number.{Bytes, encode, planGroups}
 use Rattle.leb128.proofs.Laws.{bytes-cons, bytes-head, bytes-tail, bytes-encode}
 use Rattle.graph.specs.declared.Edge.{Edge}
-use Rattle.graph.specs.Limits.{maxVertices, maxEdges, maxCost}
-use Rattle.graph.specs.Rows.{Row, row, through, vertexCountRows}
+use Rattle.graph.specs.Limits.{maxVertices, maxEdges}
+use Rattle.graph.specs.Rows.{vertexCountRows}
 use Rattle.graph.specs.Plan.{accepted, decode}
 use Rattle.graph.specs.Lists.{none, fault, edgesOf, listRows, edgesFault, writeFault, edgeBytes, edgesBytes, bytesOf}
 use Rattle.graph.specs.OneForm.{tails, heads, costs, Within, SameEdges, Rewritten, Reread, Form, OneForm}
 use Rattle.graph.proofs.Tests.{or-false, or-left, or-right, and-true, true-and}
-use Rattle.graph.proofs.Rows.{Passes, through-passes, through-clear}
+use Rattle.graph.proofs.Rows.{through-passes, through-clear}
 use Rattle.graph.proofs.Plan.{fault≢none, Whole, whole, decode-bytes}
 use Rattle.graph.proofs.Sorted.{sort, sort-same, sort-length, sort-sorted, sorted-equal}
 use Rattle.graph.proofs.Within.{sorted-passes, accepted-sorted}
