@@ -15,7 +15,7 @@ use Rattle.graph.specs.declared.PlanRead.the-variants.{Sizes}
 use Rattle.graph.specs.Plan.{firstAt, nextEdge, edgesFrom, sizes}
 use Rattle.graph.specs.Lists.{fault, edgesIn}
 use Rattle.graph.specs.OneForm.{EdgeWithin}
-use Rattle.graph.proofs.OneEdge.{Read, read-edge, edge-passes, passes-within}
+use Rattle.graph.proofs.OneEdge.{read-edge, edge-passes, passes-within}
 use Rattle.graph.proofs.Plan.{First}
 use Rattle.graph.proofs.Filling as filling
 use Rattle.graph.proofs.Filling.{sized-by, Stored, stored-none, stored-next}

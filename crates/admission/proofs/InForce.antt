@@ -4,15 +4,12 @@ use Prim.Native.Nat.{ℕ, zero, suc, _+_, _-_, _*_, _/_, _%_, _≤_, _<_}
 use native.Mathlib.Numerals.{add-one}
 use native.Mathlib.Omega.{arith}
 use mathlib.Core.Path.{_≡_, refl, sym, ap, _∙_}
-use mathlib.Core.Bool.{Bool, true, false, cond, _&&_, _||_}
+use mathlib.Core.Bool.{Bool, true, false, _||_}
 use mathlib.Core.List.{List, [], _∷_}
 use lib.ListN.{length, getD, drop, length-drop, drop-of-length-le}
 use lib.Seq.{drop-cons, getD-drop}
 use lib.Dec.{ltb, eqb}
-use borrow.Author.Tests.{ltb-false, lt-ltb, le-ltb, eq-eqb, ne-eqb}
-use Rattle.graph.specs.Lists.{Fault, none, fault}
-use Rattle.graph.proofs.Tests.{or-left}
-use Rattle.graph.proofs.Plan.{fault≢none}
+use borrow.Author.Tests.{lt-ltb, le-ltb, eq-eqb, ne-eqb}
 use Rattle.search.specs.declared.Factors.{Factors}
 use Rattle.search.specs.Job.{house}
 use Rattle.search.specs.Call.{inForce, outOfRange, rising, pairs, row, scheduleRow}
@@ -99,11 +96,6 @@ true-right : (a b : Bool) → b ≡ true → a || b ≡ true
 true-right true b h = refl
 true-right false b h = h
 
-row-none : (b : Bool) (n p : ℕ) → row b n p ≡ none → b ≡ false
-unfolding row
-row-none true n p h = absurd (fault≢none h)
-row-none false n p h = refl
-
 module _ (ws : List ℕ) where
   abbrev size : Bool
   size = ltb 32 (length ws) || eqb (length ws % 2) 1
@@ -149,14 +141,6 @@ module _ (ws : List ℕ) where
   row-fit i few even all f =
       let l : outOfRange ws || rising ws ≡ false = f .rest ∙ ap (λ (l : List ℕ). outOfRange l || rising l) (drop-of-length-le ws all) in
       by-parts false (rw (le-ltb 32 (length ws) few, ne-eqb (length ws % 2) 1 even, l))
-
-  -- what passes row 10 is short
-  pub row-few : scheduleRow ws ≡ none → length ws ≤ 32
-  unfolding scheduleRow
-  row-few h =
-      let a : size || outOfRange ws || rising ws ≡ false = row-none (size || outOfRange ws || rising ws) 10 0 h in
-      let b : size ≡ false = or-left size (outOfRange ws) (or-left (size || outOfRange ws) (rising ws) a) in
-      ltb-false 32 (length ws) (or-left (ltb 32 (length ws)) (eqb (length ws % 2) 1) b)
 
 -- ---- the rounds
 

@@ -1,6 +1,6 @@
 -- Laws for the code that decides a call: its rows downwards.
 -- Assumes nothing.
-use Prim.Native.Nat.{ℕ, _+_, _*_, _≤_, _<_}
+use Prim.Native.Nat.{ℕ, _+_, _*_, _<_}
 use native.Mathlib.Omega.{arith}
 use mathlib.Core.Path.{_≡_, refl, sym, ap, _∙_}
 use mathlib.Core.Bool.{Bool, true, false, not, _&&_, _||_}
@@ -18,9 +18,9 @@ use Rattle.graph.specs.Lists.{Fault, none, fault, edgesIn}
 use Rattle.graph.proofs.Tests.{or-right, and-true, not-false}
 use Rattle.graph.proofs.Filling.{sized-by}
 use Rattle.search.specs.Job.{house}
-use Rattle.search.specs.Call.{Memory, Call, inForce, row, first, endsRow, tablesRow, scheduleRow, memoryRow, goalRow, edgesRow, faultIn, faultOf, jobIn, jobFrom, jobOf}
+use Rattle.search.specs.Call.{inForce, row, first, endsRow, tablesRow, scheduleRow, memoryRow, goalRow, edgesRow, faultIn, faultOf, jobIn, jobFrom, jobOf}
 use Rattle.admission.specs.declared.Verdict.{Verdict}
-use Rattle.admission.specs.declared.Verdict.the-variants.{Admitted, Refused}
+use Rattle.admission.specs.declared.Verdict.the-variants.{Refused}
 use Rattle.admission.specs.Admission.{verdict, verdictOf, Decided}
 use Rattle.admission.specs.Steps.{planVerdict}
 

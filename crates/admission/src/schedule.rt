@@ -1,15 +1,14 @@
 // The schedule in force: its numbers, row 10, and the factors of each round.
-ghost use Prim.Native.Nat.{_<_};
+ghost use Prim.Native.Nat.{_≤_, _<_};
 ghost use mathlib.Core.Path.{_≡_};
 ghost use lib.ListN.{length, getD};
-ghost use Rattle.graph.specs.Lists.{none};
 ghost use Rattle.search.specs.Job.{house};
 ghost use Rattle.search.specs.Call.{inForce, pairs, row, scheduleRow};
 ghost use Rattle.admission.specs.Steps.{unfitAt};
 use search::Factors;
 
 // The house schedule: W1, W2, W1, W2, ..
-const HOUSE: [u32; 12] = [500, 500, 300, 300, 200, 200, 150, 150, 120, 120, 100, 100];
+const HOUSE: [u32; HOUSE_COUNT] = [500, 500, 300, 300, 200, 200, 150, 150, 120, 120, 100, 100];
 
 const HOUSE_COUNT: usize = 12;
 
@@ -80,9 +79,9 @@ pub fn schedule_fails(schedule: &[u32]) -> bool
     false
 }
 
-// How many rounds the schedule in force has, where it passes row 10.
+// How many rounds the schedule in force has, where it has at most 32 numbers.
 pub fn rounds(schedule: &[u32]) -> u32
-    requires { ⌜ scheduleRow (inForce house (now schedule)) ≡ none ⌝ }
+    requires { ⌜ length (inForce house (now schedule)) ≤ 32 ⌝ }
     ensures { λ r. ⌜ r ≡ length (pairs (inForce house (now (schedule .entry)))) ⌝ }
 {
     (count(schedule) / 2) as u32

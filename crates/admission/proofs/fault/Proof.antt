@@ -7,68 +7,49 @@ use Rattle.admission.proofs.Verdicts.{plan-refused}
 use borrow.Author.Needs.{needs}
 use Rattle.admission.proofs.fault.Statement.{statement}
 use Rattle.admission.proofs.fault.Tie as tie
-use Rattle.admission.proofs.fault.Reads as reads
-use Rattle.admission.proofs.fault.Lts as lts
-use Rattle.admission.proofs.plan_verdict.Reads as plan-verdict-reads
-use Rattle.admission.proofs.rows.call_verdict.Reads as call-verdict-reads
-use Rattle.graph.proofs.check.check_edges.Reads as check-edges-reads
-use Rattle.graph.proofs.check.header.Reads as header-reads
-use Rattle.graph.proofs.check.header_refusal.Reads as header-refusal-reads
 
--- src/lib.rt:49:9
 header-requires : tie.Need-header-requires
 header-requires c κs = search needs
 
--- src/lib.rt:50:24
 enum-known-counts : tie.Need-enum-known-counts
 enum-known-counts c = search needs
 
--- src/lib.rt:51:29
 enum-told : tie.Need-enum-told
 enum-told c = search needs
 
--- src/lib.rt:51:29
 header-refusal-requires : tie.Need-header-refusal-requires
 header-refusal-requires c κs = search needs
 
--- src/lib.rt:51:9
 plan-verdict-requires : tie.Need-plan-verdict-requires
 plan-verdict-requires c κs = search needs
 
--- src/lib.rt:51:9
 returns : tie.Need-returns
 returns c =
     let f = c .before .header-refusal .ensures in
     let q = c .before .before .enum-told .given .1 in
     plan-refused _ _ _ _ _ _ _ _ _ _ _ _ _ (c .plan-verdict .ensures) (check-header _ _ _ _ _ f q (c .before .before .before .before .header .ensures)) (f ∙ ap planRefusal q)
 
--- src/lib.rt:53:9
 check-edges-requires : tie.Need-check-edges-requires
 check-edges-requires c κs = search needs
 
 enum-told-2 : tie.Need-enum-told-2
 enum-told-2 c = search needs
 
--- src/lib.rt:55:9
 enum-told-3 : tie.Need-enum-told-3
 enum-told-3 c = search needs
 
--- src/lib.rt:55:9
 plan-verdict-requires-2 : tie.Need-plan-verdict-requires-2
 plan-verdict-requires-2 c κs = search needs
 
--- src/lib.rt:55:9
 returns-2 : tie.Need-returns-2
 returns-2 c =
     plan-refused _ _ _ _ _ _ _ _ _ _ _ _ _ (c .plan-verdict2 .ensures)
     (check-rest _ _ _ _ _ _ (c .before .before .before .check-edges .ensures) (c .before .before .before .before .before .counts .given .1) (c .before .before .before .before .before .before .before .header .ensures)) (c .before .enum-told3 .given .1)
 
--- src/lib.rt:57:5
 call-verdict-requires : tie.Need-call-verdict-requires
 call-verdict-requires c κs =
     (sym (c .before .before .before .before .before .before .header .ensures) ∙ c .before .before .before .before .counts .given .1, checked-sizes _ _ _ _ _ _ (sym (c .before .before .check-edges .ensures) ∙ c .enum-told2 .given .1))
 
--- src/lib.rt:36:1
 returns-3 : tie.Need-returns-3
 returns-3 c = search needs
 

@@ -4,22 +4,16 @@ use Rattle.admission.specs.Steps.{planVerdict}
 use borrow.Author.Needs.{needs}
 use Rattle.admission.proofs.plan_verdict.Statement.{statement}
 use Rattle.admission.proofs.plan_verdict.Tie as tie
-use Rattle.admission.proofs.plan_verdict.Reads as reads
-use Rattle.admission.proofs.plan_verdict.Lts as lts
 
--- src/lib.rt:30:25
 enum-known-read : tie.Need-enum-known-read
 enum-known-read c = search needs
 
--- src/lib.rt:31:27
 enum-known-read-2 : tie.Need-enum-known-read-2
 enum-known-read-2 c = search needs
 
--- src/lib.rt:26:1
 returns : tie.Need-returns
 returns c = sym (ap planVerdict (c .before .read .given .1))
 
--- src/lib.rt:26:1
 returns-2 : tie.Need-returns-2
 returns-2 c = sym (ap planVerdict (c .before .read2 .given .1))
 

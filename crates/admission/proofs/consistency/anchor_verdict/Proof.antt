@@ -3,27 +3,19 @@ use Rattle.admission.proofs.Verdicts.{goal-fails, goal-holds}
 use borrow.Author.Needs.{needs}
 use Rattle.admission.proofs.consistency.anchor_verdict.Statement.{statement}
 use Rattle.admission.proofs.consistency.anchor_verdict.Tie as tie
-use Rattle.admission.proofs.consistency.anchor_verdict.Reads as reads
-use Rattle.admission.proofs.consistency.anchor_verdict.Lts as lts
-use Rattle.admission.proofs.consistency.edges_verdict.Reads as edges-verdict-reads
 
--- src/consistency.rt:74:8
 mul-if1 : tie.Need-mul-if1
 mul-if1 c = search needs
 
--- src/consistency.rt:74:8
 shared-slice-read-if1 : tie.Need-shared-slice-read-if1
 shared-slice-read-if1 c = search needs
 
--- src/consistency.rt:75:9
 returns : tie.Need-returns
 returns c = goal-fails _ _ (c .before .before .before .before .args .anchor .now) (c .before .before .before .before .args .goal) _ (c .if1 .taken)
 
--- src/consistency.rt:77:5
 edges-verdict-requires : tie.Need-edges-verdict-requires
 edges-verdict-requires c κs = search needs
 
--- src/consistency.rt:67:1
 returns-2 : tie.Need-returns-2
 returns-2 c = goal-holds _ _ (c .before .before .before .before .before .args .anchor .now) (c .before .before .before .before .before .args .goal) _ _ (c .before .if1 .left) (c .edges-verdict .ensures)
 

@@ -1,14 +1,10 @@
 -- `edges_verdict` meets its contract: the rule holds on the edges before i. Assumes nothing.
-use Prim.Native.Nat.{ℕ, _-_}
+use Prim.Native.Nat.{_-_}
 use native.Mathlib.Omega.{arith}
 use borrow.Author.Needs.{needs}
 use Rattle.admission.proofs.AnchorRule.{Kept, kept-first, kept-next, kept-breaks, kept-all}
 use Rattle.admission.proofs.consistency.edges_verdict.Statement.{statement}
 use Rattle.admission.proofs.consistency.edges_verdict.Tie as tie
-use Rattle.admission.proofs.consistency.edges_verdict.Reads as reads
-use Rattle.admission.proofs.consistency.edges_verdict.Lts as lts
-use Rattle.admission.proofs.consistency.try_edge.Reads as try-edge-reads
-use Rattle.graph.proofs.Cursor.first.Reads as first-reads
 
 abbrev Inv-loop : tie.InvT-loop
 Inv-loop bytes vertices edges at anchor count cursor₀ i₀ cursor i = Kept vertices edges bytes at anchor i cursor
@@ -16,45 +12,35 @@ Inv-loop bytes vertices edges at anchor count cursor₀ i₀ cursor i = Kept ver
 abbrev μ-loop : tie.MeasureT-loop
 μ-loop bytes vertices edges at anchor count cursor₀ i₀ cursor i = edges - i
 
--- src/consistency.rt:54:9
 first-requires : tie.Need-first-requires Inv-loop μ-loop
 first-requires c κs = search needs
 
--- src/consistency.rt:56:5
 loop-holds : tie.Need-loop-holds Inv-loop μ-loop
 loop-holds c = kept-first _ _ _ _ _ _ (c .first .ensures) (c .before .before .before .pre .0)
 
--- src/consistency.rt:57:34
 try-edge-requires : tie.Need-try-edge-requires Inv-loop μ-loop
 try-edge-requires c κs = c .before .before .before .before .before .pre .1
 
--- src/consistency.rt:57:26
 enum-known-next : tie.Need-enum-known-next Inv-loop μ-loop
 enum-known-next c = search needs
 
--- src/consistency.rt:58:13
 enum-told : tie.Need-enum-told Inv-loop μ-loop
 enum-told c = search needs
 
--- src/consistency.rt:58:13
 returns : tie.Need-returns Inv-loop μ-loop
 returns c =
     kept-breaks _ _ _ _ _ _ _ (c .before .before .before .loop-test .taken) (c .before .before .before .before .loop .inv) _ (c .before .before .try-edge .ensures) (c .enum-told .given .1)
 
--- src/consistency.rt:61:9
 add-i : tie.Need-add-i Inv-loop μ-loop
 add-i c = omega arith
 
--- src/consistency.rt:56:5
 loop-less : tie.Need-loop-less Inv-loop μ-loop
 loop-less c = omega arith
 
--- src/consistency.rt:56:5
 loop-again : tie.Need-loop-again Inv-loop μ-loop
 loop-again c =
     kept-next _ _ _ _ _ _ _ (c .before .before .before .before .loop-test .taken) (c .before .before .before .before .before .loop .inv) _ (c .before .before .before .try-edge .ensures) _ (c .before .next .given .1)
 
--- src/consistency.rt:48:1
 returns-2 : tie.Need-returns-2 Inv-loop μ-loop
 returns-2 c = kept-all _ _ _ _ _ _ _ (omega (arith, c .loop-test)) (c .before .loop .inv)
 

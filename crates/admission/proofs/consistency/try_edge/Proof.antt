@@ -5,38 +5,27 @@ use Rattle.admission.proofs.AnchorRule.{read-within, tried-fault, tried
 use borrow.Author.Needs.{needs}
 use Rattle.admission.proofs.consistency.try_edge.Statement.{statement}
 use Rattle.admission.proofs.consistency.try_edge.Tie as tie
-use Rattle.admission.proofs.consistency.try_edge.Reads as reads
-use Rattle.admission.proofs.consistency.try_edge.Lts as lts
-use Rattle.admission.proofs.consistency.breaks.Reads as breaks-reads
-use Rattle.graph.proofs.Cursor.step.Reads as step-reads
 
--- src/consistency.rt:37:38
 step-requires : tie.Need-step-requires
 step-requires c κs = search needs
 
--- src/consistency.rt:37:24
 enum-known-edge : tie.Need-enum-known-edge
 enum-known-edge c = search needs
 
--- src/consistency.rt:38:9
 enum-told : tie.Need-enum-told
 enum-told c = search needs
 
--- src/consistency.rt:38:9
 returns : tie.Need-returns
 returns c = tried-fault _ _ _ _ (sym (c .before .before .step .ensures) ∙ c .enum-told .given .1)
 
--- src/consistency.rt:40:8
 breaks-requires : tie.Need-breaks-requires
 breaks-requires c κs =
     let w = read-within _ _ _ _ _ (sym (c .before .before .before .step .ensures) ∙ c .before .edge .given .1) in
     (omega (arith, w .tail, c .before .before .before .before .before .before .pre), omega (arith, w .head, c .before .before .before .before .before .before .pre))
 
--- src/consistency.rt:33:1
 returns-2 : tie.Need-returns-2
 returns-2 c = tried-breaks _ _ _ _ (sym (c .before .before .before .before .before .step .ensures) ∙ c .before .before .before .edge .given .1) _ (c .before .breaks .ensures) (c .if1 .taken)
 
--- src/consistency.rt:33:1
 returns-3 : tie.Need-returns-3
 returns-3 c = tried-holds _ _ _ _ (sym (c .before .before .before .before .before .step .ensures) ∙ c .before .before .before .edge .given .1) _ (c .before .breaks .ensures) (c .if1 .left)
 

@@ -3,30 +3,22 @@ use borrow.Author.Tests.{lt-ltb, le-ltb}
 use borrow.Author.Needs.{needs}
 use Rattle.admission.proofs.rows.memory_fails.Statement.{statement}
 use Rattle.admission.proofs.rows.memory_fails.Tie as tie
-use Rattle.admission.proofs.rows.memory_fails.Reads as reads
-use Rattle.admission.proofs.rows.memory_fails.Lts as lts
 
--- src/rows.rt:47:9
 returns : tie.Need-returns
 returns c = simp (lt-ltb _ _ (c .if1 .taken))
 
--- src/rows.rt:49:12
 mul-result : tie.Need-mul-result
 mul-result c = search needs
 
--- src/rows.rt:49:12
 add-result : tie.Need-add-result
 add-result c = search needs
 
--- src/rows.rt:49:24
 mul-result-2 : tie.Need-mul-result-2
 mul-result-2 c = search needs
 
--- src/rows.rt:49:12
 add-result-2 : tie.Need-add-result-2
 add-result-2 c = search needs
 
--- src/rows.rt:42:1
 returns-2 : tie.Need-returns-2
 returns-2 c = simp (le-ltb _ _ (c .if1 .left))
 

@@ -4,22 +4,16 @@ use native.Mathlib.Omega.{arith}
 use borrow.Author.Tests.{lt-ltb, le-ltb, eq-eqb, ne-eqb}
 use Rattle.admission.proofs.rows.tables_fail.Statement.{statement}
 use Rattle.admission.proofs.rows.tables_fail.Tie as tie
-use Rattle.admission.proofs.rows.tables_fail.Reads as reads
-use Rattle.admission.proofs.rows.tables_fail.Lts as lts
 
--- src/rows.rt:32:9
 returns : tie.Need-returns
 returns c = simp (lt-ltb _ _ (c .if1 .taken))
 
--- src/rows.rt:36:9
 returns-2 : tie.Need-returns-2
 returns-2 c = simp (le-ltb _ _ (c .before .if1 .left), ne-eqb _ _ (c .if2 .taken))
 
--- src/rows.rt:38:15
 mul-result : tie.Need-mul-result
 mul-result c = omega (arith, mul-le-mul-right (c .before .before .args .vertices) (c .before .if1 .left))
 
--- src/rows.rt:28:1
 returns-3 : tie.Need-returns-3
 returns-3 c = simp (le-ltb _ _ (c .before .if1 .left), eq-eqb _ _ (c .if2 .left))
 

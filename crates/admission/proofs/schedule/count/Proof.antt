@@ -2,14 +2,10 @@
 use Rattle.admission.proofs.InForce.{count-house, count-given}
 use Rattle.admission.proofs.schedule.count.Statement.{statement}
 use Rattle.admission.proofs.schedule.count.Tie as tie
-use Rattle.admission.proofs.schedule.count.Reads as reads
-use Rattle.admission.proofs.schedule.count.Lts as lts
 
--- src/schedule.rt:24:1
 returns : tie.Need-returns
 returns c = count-house _ (c .if1 .taken)
 
--- src/schedule.rt:24:1
 returns-2 : tie.Need-returns-2
 returns-2 c = count-given _ (c .if1 .left)
 
