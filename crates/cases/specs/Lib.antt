@@ -1,0 +1,2 @@
+-- What is stated, in reading order.
+pub mod Cases
