@@ -1,1 +1,4 @@
+pub mod Schedules
+pub mod Ends
+pub mod TwoVertices
 pub mod Cases
