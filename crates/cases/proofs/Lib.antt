@@ -1,4 +1,5 @@
 pub mod Schedules
 pub mod Ends
 pub mod TwoVertices
+pub mod StartIsGoal
 pub mod Cases
