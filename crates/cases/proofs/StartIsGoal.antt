@@ -25,7 +25,7 @@ use Rattle.search.proofs.Facts.{Valid}
 use Rattle.search.proofs.Rule.{StepView, at-stuck, at-finished, at-due, step-view}
 use Rattle.search.proofs.Runs.{run-over, moments-over, finished≢due}
 use Rattle.search.proofs.Admitted.{admitted}
-use Rattle.cases.specs.Cases.{HandsOver, routed}
+use Rattle.cases.specs.Cases.{HandsOver, allRounds, startAlone}
 use Rattle.cases.proofs.Ends.{settled-at, handed}
 
 -- a round's beginning changes nothing at first
@@ -137,31 +137,16 @@ module _ (c : Call) (e : faultOf c ≡ none) (same : c .start ≡ c .goal) where
   abbrev valid : Valid (jobOf c)
   valid = admitted c e
 
-  abbrev rounds : ℕ
-  rounds = length (jobOf c .schedule)
-
-  says : figures (answerIn c none) ≡ routed 0 1 rounds 0 (factors (jobOf c) (rounds - 1) .w1 * factors (jobOf c) (rounds - 1) .w2)
+  says : figures (answerIn c none) ≡ allRounds c
   unfolding answerIn outcome search answerOf answerAt figures summary bound
   says = rw (runs (jobOf c) valid same-ends (c .budget))
 
-  leaves :
-      memoryIn c none
-      ≡ record {
-        route = over (c .start ∷ replicate (jobOf c .size - 1) routeEnd) (c .memory .route);
-        log = c .memory .log;
-        work = over (workWords (jobOf c .size) (edgesIn (decode (c .bytes))) (atFirst (jobOf c .size) (c .start))) (c .memory .work);
-      }
+  leaves : memoryIn c none ≡ startAlone c
   unfolding memoryIn outcome search routeAfter routeWords logAfter
   leaves =
       rw (runs (jobOf c) valid same-ends (c .budget), no-turns (jobOf c) valid same-ends (c .budget),
-          ne-eqb rounds 0 (λ z. omega (arith, valid .some)), take-nil (length (c .memory .log)), starts)
+          ne-eqb (length (jobOf c .schedule)) 0 (λ z. omega (arith, valid .some)), take-nil (length (c .memory .log)), starts)
       (unfold over in refl)
 
-  pub start-is-goal :
-      HandsOver c (routed 0 1 rounds 0 (factors (jobOf c) (rounds - 1) .w1 * factors (jobOf c) (rounds - 1) .w2))
-      (record {
-        route = over (c .start ∷ replicate (jobOf c .size - 1) routeEnd) (c .memory .route);
-        log = c .memory .log;
-        work = over (workWords (jobOf c .size) (edgesIn (decode (c .bytes))) (atFirst (jobOf c .size) (c .start))) (c .memory .work);
-      })
+  pub start-is-goal : HandsOver c (allRounds c) (startAlone c)
   start-is-goal = handed c _ _ e says leaves

@@ -12,7 +12,7 @@ use Rattle.leb128.specs.Number.{planGroups, answered, read}
 use Rattle.graph.specs.Rows
 use Rattle.graph.specs.Rows.{vertexCountRows, edgeCountRows, through, throughAll, taking}
 use Rattle.graph.specs.Plan.{accepted, edgesFrom, header, afterHeader, decode}
-use Rattle.graph.specs.Lists.{none, over, edgesIn}
+use Rattle.graph.specs.Lists.{none, edgesIn}
 use Rattle.search.specs.declared.Factors.{Factors}
 use Rattle.search.specs.declared.Vertex.{Vertex}
 use Rattle.search.specs.declared.Step.{Step}
@@ -24,7 +24,7 @@ use Rattle.search.specs.Call.{Memory, Call, inForce, pairs, faultOf, tables, jo
 use Rattle.search.specs.Outcome.{Figures, answerAt, answerOf, figures, routeAfter, logWord, logAfter, edgesBelow, firstEdges, markWord, vertexWords, workWords, outcome, answerIn, memoryIn}
 use Rattle.search.proofs.Admitted.{clear-none}
 use Rattle.search.proofs.Runs.{run-over, moments-over, stuck≢due}
-use Rattle.cases.specs.Cases.{HandsOver, Schedule, Enough, twoVertices, noRouteAfter, no}
+use Rattle.cases.specs.Cases.{HandsOver, Schedule, Enough, twoVertices, noRouteAfter, twoVerticesAfter}
 use Rattle.cases.proofs.Schedules.{Passes, passes}
 use Rattle.cases.proofs.Ends.{settled-at, handed}
 
@@ -111,13 +111,7 @@ module _ (n : ℕ) (m : Memory) (f : Factors) (fs : List Factors) (c : Call) (e 
   unfolding answerIn outcome search answerOf answerAt figures
   says = rw (e, b, runs f fs n)
 
-  leaves :
-      memoryIn c none
-      ≡ record {
-        route = m .route;
-        log = over (take (length (m .log)) (0 ∷ [])) (m .log);
-        work = over (0 ∷ 0 ∷ 0 ∷ 0 ∷ 0 ∷ no ∷ 2 ∷ no ∷ no ∷ no ∷ 0 ∷ []) (m .work);
-      }
+  leaves : memoryIn c none ≡ twoVerticesAfter m
   unfolding memoryIn outcome search routeAfter logAfter logWord workWords firstEdges edgesBelow vertexWords markWord marked origin fresh unreached noPred
   leaves = rw (e, b, es, lent, runs f fs n, turned-once f fs n)
 
@@ -129,12 +123,7 @@ rounds-of (u ∷ v ∷ ws) y n m = (_, _, refl)
 
 pub two-vertices :
     (ws : List ℕ) → Schedule ws → (n : ℕ) → 1 ≤ n → (m : Memory) → Enough 2 0 m →
-    HandsOver (twoVertices ws n m) (noRouteAfter 1)
-    (record {
-      route = m .route;
-      log = over (take (length (m .log)) (0 ∷ [])) (m .log);
-      work = over (0 ∷ 0 ∷ 0 ∷ 0 ∷ 0 ∷ no ∷ 2 ∷ no ∷ no ∷ no ∷ 0 ∷ []) (m .work);
-    })
+    HandsOver (twoVertices ws n m) (noRouteAfter 1) (twoVerticesAfter m)
 unfolding Number.decode answered read planGroups vertexCountRows edgeCountRows through throughAll Rows.take taking edgesFrom header afterHeader decode edgesIn
 two-vertices ws y zero h m e = absurd (not-suc-le-zero h)
 two-vertices ws y (suc n) h m e =

@@ -7,7 +7,7 @@ use Rattle.graph.specs.declared.PlanRead.the-variants.{Refused}
 use Rattle.graph.specs.Plan.{decode}
 use Rattle.graph.specs.Plan
 use Rattle.graph.specs.Lists.{none, over, readAnswer, edgesIn}
-use Rattle.search.specs.Job.{factors, routeEnd, atFirst}
+use Rattle.search.specs.Job.{Job, factors, routeEnd, atFirst}
 use Rattle.search.specs.Call.{Memory, Call, faultOf, jobOf}
 use Rattle.search.specs.Outcome.{Figures, route, noRoute, unfinished, refused, figures, workWords, answer, memoryAfter}
 
@@ -108,6 +108,34 @@ pub record Enough (v m : ℕ) (memory : Memory) : Type 0 where
   pub route : v ≤ length (memory .route)
   pub work : 5 * v + 1 + 2 * m ≤ length (memory .work)
 
+-- memory after it: route memory as it was, one turn logged (vertex 0, the anchor), and work memory: three first edge numbers, two vertices
+abbrev pub twoVerticesAfter : Memory → Memory
+twoVerticesAfter m =
+    record {
+      route = m .route;
+      log = over (take (length (m .log)) (0 ∷ [])) (m .log);
+      work = over (0 ∷ 0 ∷ 0 ∷ 0 ∷ 0 ∷ no ∷ 2 ∷ no ∷ no ∷ no ∷ 0 ∷ []) (m .work);
+    }
+
+-- ---- start = goal
+
+-- cost 0, every round finished, no turn
+abbrev pub allRounds : Call → Figures
+allRounds c =
+    let job : Job = jobOf c in
+    let rounds : ℕ = length (job .schedule) in
+    routed 0 1 rounds 0 (factors job (rounds - 1) .w1 * factors job (rounds - 1) .w2)
+
+-- the start alone is the route, nothing is logged, and the vertices are as at first
+abbrev pub startAlone : Call → Memory
+startAlone c =
+    let v : ℕ = jobOf c .size in
+    record {
+      route = over (c .start ∷ replicate (v - 1) routeEnd) (c .memory .route);
+      log = c .memory .log;
+      work = over (workWords v (edgesIn (decode (c .bytes))) (atFirst v (c .start))) (c .memory .work);
+    }
+
 -- ---- the table
 
 pub record Cases : Type 0 where
@@ -138,22 +166,9 @@ pub record Cases : Type 0 where
   -- (p) `02 00`, 0 to 1, zero anchor table, no guides, allowance 1 or more: no route, 1 turn
   pub two-vertices :
       (ws : List ℕ) → Schedule ws → (budget : ℕ) → 1 ≤ budget → (m : Memory) → Enough 2 0 m →
-      HandsOver (twoVertices ws budget m) (noRouteAfter 1)
-      (record {
-        route = m .route;
-        log = over (take (length (m .log)) (0 ∷ [])) (m .log);
-        work = over (0 ∷ 0 ∷ 0 ∷ 0 ∷ 0 ∷ no ∷ 2 ∷ no ∷ no ∷ no ∷ 0 ∷ []) (m .work);
-      })
-  -- (p) Start = goal, allowance 0, valid tables: cost 0, every round finished; so at every allowance, with no turn, and the start alone is the route
-  pub start-is-goal :
-      (c : Call) → faultOf c ≡ none → c .start ≡ c .goal →
-      let rounds : ℕ = length (jobOf c .schedule) in
-      HandsOver c (routed 0 1 rounds 0 (factors (jobOf c) (rounds - 1) .w1 * factors (jobOf c) (rounds - 1) .w2))
-      (record {
-        route = over (c .start ∷ replicate (jobOf c .size - 1) routeEnd) (c .memory .route);
-        log = c .memory .log;
-        work = over (workWords (jobOf c .size) (edgesIn (decode (c .bytes))) (atFirst (jobOf c .size) (c .start))) (c .memory .work);
-      })
+      HandsOver (twoVertices ws budget m) (noRouteAfter 1) (twoVerticesAfter m)
+  -- (p) Start = goal, allowance 0, valid tables: cost 0, every round finished. So at every allowance
+  pub start-is-goal : (c : Call) → faultOf c ≡ none → c .start ≡ c .goal → HandsOver c (allRounds c) (startAlone c)
   -- (p) no bytes: 1 at 0
   pub no-bytes : PlanRefused [] 1 0
   -- (p) `80 00`: 1 at 0
