@@ -87,8 +87,12 @@ module _ (job : Job) (v : Valid job) (same : job .start ≡ job .goal) where
   ends-again : (r : ℕ) → endRound job (state r (job .start ∷ [])) ≡ state (suc r) (job .start ∷ [])
   unfolding endRound ended improves costOr routeCost costFrom
   ends-again r =
-      rw (trace-is r (job .start ∷ []), unchanged (ltb (suc r) (length (job .schedule))), cond-same {A = ℕ} (eqb r 0 || ltb 0 0) 0,
-          cond-same (eqb r 0 || ltb 0 0) (job .start ∷ []))
+      rw (
+        trace-is r (job .start ∷ []),
+        unchanged (ltb (suc r) (length (job .schedule))),
+        cond-same {A = ℕ} (eqb r 0 || ltb 0 0) 0,
+        cond-same (eqb r 0 || ltb 0 0) (job .start ∷ []),
+      )
 
   abbrev done : ℕ → Stand
   done r = record { step = Finished; state = state r (job .start ∷ []) }
@@ -144,8 +148,13 @@ module _ (c : Call) (e : faultOf c ≡ none) (same : c .start ≡ c .goal) where
   leaves : memoryIn c none ≡ startAlone c
   unfolding memoryIn outcome search routeAfter routeWords logAfter
   leaves =
-      rw (runs (jobOf c) valid same-ends (c .budget), no-turns (jobOf c) valid same-ends (c .budget),
-          ne-eqb (length (jobOf c .schedule)) 0 (λ z. omega (arith, valid .some)), take-nil (length (c .memory .log)), starts)
+      rw (
+        runs (jobOf c) valid same-ends (c .budget),
+        no-turns (jobOf c) valid same-ends (c .budget),
+        ne-eqb (length (jobOf c .schedule)) 0 (λ z. omega (arith, valid .some)),
+        take-nil (length (c .memory .log)),
+        starts,
+      )
       (unfold over in refl)
 
   pub start-is-goal : HandsOver c (allRounds c) (startAlone c)
