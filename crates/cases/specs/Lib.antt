@@ -1,0 +1,3 @@
+-- What is stated, in reading order.
+pub mod Cases
+pub mod Instance
