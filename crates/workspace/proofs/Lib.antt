@@ -1,3 +1,5 @@
 pub mod Four
 pub mod Written
 pub mod Begun
+pub mod Firsts
+pub mod Loading
