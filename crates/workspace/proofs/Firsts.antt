@@ -17,12 +17,8 @@ use Rattle.graph.proofs.Rows.{Passes}
 use Rattle.graph.proofs.OneEdge.{passes-from, passes-within}
 use Rattle.graph.proofs.Plan.{edge-clear}
 use Rattle.search.specs.Outcome.{edgesBelow, firstEdges}
-use Rattle.search.proofs.Tools.{le-cases, same-cases}
-
--- edges of v vertices, whose tails rise from p on
-pub data Rising (v : ℕ) : ℕ → List Edge → Type 0 where
-  end : {p : ℕ} → Rising v p []
-  then : {p : ℕ} {e : Edge} {es : List Edge} → p ≤ e .tail → e .tail < v → e .head < v → Rising v (e .tail) es → Rising v p (e ∷ es)
+use Rattle.search.proofs.Tools.{le-cases}
+use Rattle.workspace.specs.Holds.{Rising, end, then}
 
 -- edges that pass the writer's rows are such
 pub passes-rising : (v t l i : ℕ) (es : List Edge) → edgesFault v t l i es ≡ none → Rising v t es

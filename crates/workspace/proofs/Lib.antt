@@ -3,3 +3,4 @@ pub mod Written
 pub mod Begun
 pub mod Firsts
 pub mod Loading
+pub mod Holding

@@ -22,8 +22,9 @@ use Rattle.graph.proofs.Filling.{Stored, stored-none, stored-next, first, curso
 use Rattle.search.specs.Outcome.{edgesBelow, firstEdges}
 use Rattle.workspace.specs.declared.Size.{Size}
 use Rattle.workspace.specs.Layout.{base, graphWords}
+use Rattle.workspace.specs.Holds.{Rising, end, then}
 use Rattle.workspace.specs.Steps.{withEdge, edgeStored}
-use Rattle.workspace.proofs.Firsts.{Rising, end, then, passes-rising, below-none, countsFrom, counts-first, firstsFrom, firsts-are}
+use Rattle.workspace.proofs.Firsts.{passes-rising, below-none, countsFrom, counts-first, firstsFrom, firsts-are}
 
 -- ---- one edge
 
@@ -118,7 +119,7 @@ module _ (z : Size) (r : List ℕ) where
 
 -- ---- the whole graph
 
-length-firsts : (n t : ℕ) (es : List Edge) → length (firstEdges n t es) ≡ n
+pub length-firsts : (n t : ℕ) (es : List Edge) → length (firstEdges n t es) ≡ n
 unfolding firstEdges
 length-firsts zero t es = refl
 length-firsts (suc n) t es = ap suc (length-firsts n (suc t) es)
