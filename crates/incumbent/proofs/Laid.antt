@@ -13,6 +13,9 @@ use Rattle.search.specs.Job.{at, routeEnd}
 use Rattle.search.specs.Rounds.{trace}
 use Rattle.search.specs.Outcome.{routeWords}
 use Rattle.search.proofs.Tools.{same-cases}
+use Rattle.workspace.specs.declared.Size.{Size}
+use Rattle.workspace.specs.Layout.{verticesOf}
+use Rattle.incumbent.specs.Kept.{tracedIn}
 use Rattle.incumbent.specs.Steps.{backs}
 use Rattle.incumbent.proofs.Traces.{trace-stop, trace-go, trace-none}
 
@@ -39,7 +42,7 @@ module _ (st : List Vertex) where
         (λ e. rw (trace-stop st start n x r e, trace-stop st start n x [] e) (omega arith))
         (λ e. rw (trace-go st start n x r e, trace-go st start n x [] e) (omega (arith, length-trace n (at st x .pred) (x ∷ r), length-trace n (at st x .pred) (x ∷ []))))
 
-    pub length-traced : (n x : ℕ) → length (trace st start n x []) ≤ n
+    length-traced : (n x : ℕ) → length (trace st start n x []) ≤ n
     length-traced zero x = rw (trace-none st start x []) (omega arith)
     length-traced (suc n) x =
         same-cases x start
@@ -58,7 +61,7 @@ module _ (st : List Vertex) where
         rw (trace-go st start n x r e, trace-go st start n x [] e, l) (trace-backs n p (x ∷ r)))
 
     -- the trace is the goal and its predecessors, by their number
-    pub traced-backs : (v goal n : ℕ) → n ≡ length (trace st start v goal []) → backs st n goal [] ≡ trace st start v goal []
+    traced-backs : (v goal n : ℕ) → n ≡ length (trace st start v goal []) → backs st n goal [] ≡ trace st start v goal []
     traced-backs v goal n e = rw e (sym (trace-backs v goal []))
 
   -- ---- the loop that lays n vertices from the back: r₀ before it, r with those from word i on
@@ -103,7 +106,7 @@ module _ (v i c : ℕ) (r : List ℕ) where
   fill-done h = let q : v - i ≡ 0 = omega arith in rw q
 
 -- a route laid, and then the words that end it
-pub ended-route :
+ended-route :
     (v : ℕ) (t old : List ℕ) → length t ≤ v → v ≤ length old →
     sets (over t old) (length t) (replicate (v - length t) routeEnd) ≡ over (routeWords v t) old
 unfolding over routeWords
@@ -115,3 +118,20 @@ ended-route v t old h room =
     let lw : length (t ++ e) ≡ n + length e = length-append t e in
     sets-eq e (t ++ drop n old) n (omega arith)
     ∙ rw (take-at t (drop n old) n refl, ← drop-drop (length e) n (t ++ drop n old), drop-at t (drop n old) n refl, drop-drop (length e) n old, lw)
+
+-- ---- the trace, as work memory has it
+
+module _ (z : Size) (w : List ℕ) (start goal : ℕ) where
+  pub tracedIn-most : length (tracedIn z w start goal) ≤ z .vertices
+  unfolding tracedIn
+  tracedIn-most = length-traced (verticesOf z w) start (z .vertices) goal
+
+  module _ (old laid r : List ℕ) (n : ℕ) (e : n ≡ length (tracedIn z w start goal)) (f : laid ≡ over (backs (verticesOf z w) n goal []) old) where
+    pub laid-traced : laid ≡ over (tracedIn z w start goal) old
+    unfolding tracedIn
+    laid-traced = rw (f, traced-backs (verticesOf z w) start (z .vertices) goal n e)
+
+    pub laid-whole :
+        z .vertices ≤ length old → r ≡ sets laid n (replicate (z .vertices - n) routeEnd) → r ≡ over (routeWords (z .vertices) (tracedIn z w start goal)) old
+    laid-whole room g =
+        rw (g, laid-traced, e) (ended-route (z .vertices) (tracedIn z w start goal) old tracedIn-most room)

@@ -87,17 +87,33 @@ module _ (edges : List Edge) where
 
 -- ---- costs within bounds
 
-pub plus-most : (m n : ℕ) (x y : RouteCost) → AtMost m x → AtMost n y → AtMost (m + n) (plus x y)
+plus-most : (m n : ℕ) (x y : RouteCost) → AtMost m x → AtMost n y → AtMost (m + n) (plus x y)
 unfolding plus
 plus-most m n Broken y h k = record { most = λ i e. let q : _≡_ {A = ℕ} 0 1 = cc in absurd (omega arith) }
 plus-most m n (Cost c) Broken h k = record { most = λ i e. let q : _≡_ {A = ℕ} 0 1 = cc in absurd (omega arith) }
 plus-most m n (Cost c) (Cost d) h k = cost-most (m + n) (c + d) (omega (arith, h .most c refl, k .most d refl))
 
-pub payable-back : (edges : List Edge) (x : ℕ) (t : Traced) → AtMost maxWord (edgeCost edges x (t .first)) → Payable t → Payable (extended edges x t)
-unfolding extended
-payable-back edges x t h k =
-    let e : maxWord * (t .length + 1) ≡ maxWord + maxWord * t .length = omega arith in
-    rw e (plus-most maxWord (maxWord * t .length) (edgeCost edges x (t .first)) (t .cost) h k)
+pub most-le : (m n : ℕ) (x : RouteCost) → m ≤ n → AtMost m x → AtMost n x
+most-le m n x h k = record { most = λ i e. omega (arith, k .most i e) }
+
+-- ---- one vertex further back
+
+module _ (edges : List Edge) (x : ℕ) (t : Traced) where
+  pub back-length : (t′ : Traced) → t′ ≡ extended edges x t → t′ .length ≡ t .length + 1
+  unfolding extended
+  back-length t′ e = ap (λ (y : Traced). y .length) e
+
+  back-first : (t′ : Traced) → t′ ≡ extended edges x t → t′ .first ≡ x
+  unfolding extended
+  back-first t′ e = ap (λ (y : Traced). y .first) e
+
+  pub back-step :
+      (p : ℕ) (e r : RouteCost) → p ≡ x → e ≡ edgeCost edges p (t .first) → AtMost maxWord e → r ≡ plus e (t .cost) → Payable t →
+      (record { first = p; length = t .length + 1; cost = r } ≡ extended edges x t) × AtMost (maxWord * (t .length + 1)) r
+  unfolding extended
+  back-step p e r f g m h k =
+      let q : maxWord * (t .length + 1) ≡ maxWord + maxWord * t .length = omega arith in
+      (rw (h, g, f), rw (q, h) (plus-most maxWord (maxWord * t .length) e (t .cost) m k))
 
 -- ---- the loop
 
@@ -135,11 +151,10 @@ module _ (z : Size) (w : List ℕ) (start goal : ℕ) where
 
     pub tracing-more : (t′ : Traced) → t .length < z .vertices → t .first ≢ start
         → t′ ≡ extended (graphOf z w) (at (verticesOf z w) (t .first) .pred) t → Payable t′ → Tracing t′
-    unfolding extended
     tracing-more t′ h ne e p =
         let x : ℕ = at (verticesOf z w) (t .first) .pred in
         let s : suc (k .left - 1) ≡ k .left = omega (arith, k .more) in
-        let f : t′ .first ≡ x = ap (λ (y : Traced). y .first) e in
+        let f : t′ .first ≡ x = back-first (graphOf z w) x t t′ e in
         record {
           rest = t .first ∷ k .rest;
           left = k .left - 1;

@@ -35,7 +35,10 @@ loop-less c = search needs
 
 -- src/laying.rt:33:5
 loop-again : tie.Need-loop-again Inv-loop μ-loop
-loop-again c = ?
+loop-again c =
+    let s = c .before .before .before .before .before .before .before .before in
+    let l = c .before .before .before .before .before .loop in
+    laying-more (verticesOf (s .args .z) (s .args .work .now)) (s .args .n) (s .args .goal) (s .args .route .now) (l .route) (l .i) (l .x) (l .inv) _ _ (c .before .before .before .before .loop-test .taken) (s .pre .1) (c .before .before .put .ensures .1) (c .before .before .put .ensures .0)
 
 -- src/laying.rt:27:1
 same-length : tie.Need-same-length Inv-loop μ-loop
