@@ -1,3 +1,4 @@
 pub mod Found
 pub mod Traces
 pub mod Laid
+pub mod Ended

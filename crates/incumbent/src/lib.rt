@@ -3,6 +3,7 @@
 pub mod edges;
 pub mod laying;
 pub mod tracing;
+
 ghost use mathlib.Core.Path.{_≡_};
 ghost use Prim.Native.Nat.{_<_, _≤_};
 ghost use lib.ListN.{length};

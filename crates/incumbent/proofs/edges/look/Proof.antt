@@ -37,8 +37,7 @@ cast-t10 c = search needs
 returns-2 : tie.Need-returns-2
 unfolding orElse edgeAt
 returns-2 c =
-    let e = c .before .before .edge in
-    (
+    let e = c .before .before .edge in (
       rw (c .before .before .before .enum-told .given .1) (ap Cost (ap (λ (x : Edge). x .cost) (e .ensures)) ∙ sym (alone-yes _ _ _ refl (sym (ap (λ (x : Edge). x .head) (e .ensures)) ∙ c .if1 .taken))),
       cost-most _ _ (omega arith),
     )
@@ -47,8 +46,7 @@ returns-2 c =
 returns-3 : tie.Need-returns-3
 unfolding orElse edgeAt
 returns-3 c =
-    let e = c .before .before .edge in
-    (
+    let e = c .before .before .edge in (
       rw (c .before .before .before .enum-told .given .1) (sym (alone-no _ _ _ refl (λ q. c .if1 .left (ap (λ (x : Edge). x .head) (e .ensures) ∙ q)))),
       none-most _,
     )
