@@ -3,8 +3,10 @@ ghost use mathlib.Core.Path.{_≡_};
 ghost use Rattle.leb128.specs.Number.{planGroups, jobGroups, read, writeAnswer, written};
 ghost use Rattle.graph.specs.Plan.{decode, sizes};
 ghost use Rattle.graph.specs.Lists.{tailOf, headOf, costOf, readAnswer, listAfter};
-ghost use Rattle.ffi.specs.Figures.{readFigures, writtenFigures, planFigures};
+ghost use Rattle.graph.specs.Lists as lists;
+ghost use Rattle.ffi.specs.Figures.{readFigures, writtenFigures, planFigures, countFigures};
 use graph::PlanRead;
+use graph::PlanWritten;
 use leb128::NumberRead;
 use leb128::NumberWritten;
 
@@ -36,6 +38,16 @@ fn of_plan(read: PlanRead) -> [u64; 4]
     match read {
         PlanRead::Sizes(vertices, edges) => [0, 0, vertices as u64, edges as u64],
         PlanRead::Refused(n, p) => [n as u64, p as u64, 0, 0],
+    }
+}
+
+// The figures of a plan that was written.
+fn of_count(written: PlanWritten) -> [u64; 4]
+    ensures { λ r. ⌜ r ≡ countFigures written ⌝ }
+{
+    match written {
+        PlanWritten::Count(count) => [0, 0, count as u64, 0],
+        PlanWritten::Rejected(n, p) => [n as u64, p as u64, 0, 0],
     }
 }
 
@@ -92,4 +104,20 @@ pub extern "C" fn secondcoop_read_plan(
     ensures { λ r. ⌜ now (costs .exit) ≡ listAfter costOf (now (bytes .entry)) (now (costs .entry)) (readAnswer (now (bytes .entry)) (now (tails .entry)) (now (heads .entry)) (now (costs .entry))) ⌝ }
 {
     *figures = of_plan(graph::read::read(bytes, tails, heads, costs));
+}
+
+// A plan written from V and three lists.
+#[no_mangle]
+pub extern "C" fn secondcoop_write_plan(
+    vertices: u32,
+    tails: &[u32],
+    heads: &[u32],
+    costs: &[u32],
+    out: &mut [u8],
+    figures: &mut [u64; 4],
+)
+    ensures { λ r. ⌜ now (figures .exit) ≡ countFigures (lists.writeAnswer vertices (now (tails .entry)) (now (heads .entry)) (now (costs .entry)) (now (out .entry))) ⌝ }
+    ensures { λ r. ⌜ now (out .exit) ≡ lists.outAfter vertices (now (tails .entry)) (now (heads .entry)) (now (costs .entry)) (now (out .entry)) (lists.writeAnswer vertices (now (tails .entry)) (now (heads .entry)) (now (costs .entry)) (now (out .entry))) ⌝ }
+{
+    *figures = of_count(graph::write::write(vertices, tails, heads, costs, out));
 }

@@ -1,10 +1,11 @@
 -- What the writer's private functions give: for their contracts alone, nothing that a reader must believe.
-use Prim.Native.Nat.{ℕ, _+_, _≤_, _<_}
+use Prim.Native.Nat.{ℕ, _+_, _^_, _≤_, _<_}
 use mathlib.Core.Path.{_≡_}
 use mathlib.Core.Bool.{Bool, _&&_, _||_}
 use mathlib.Core.List.{List, [], _∷_}
 use lib.ListN.{length, getD}
 use lib.Dec.{ltb, eqb}
+use Rattle.leb128.specs.Number.{planGroups}
 use Rattle.graph.specs.declared.Edge.{Edge}
 use Rattle.graph.specs.declared.Cursor.{Cursor}
 use Rattle.graph.specs.declared.EdgeRead.{EdgeRead}
@@ -49,10 +50,24 @@ planMeasured v ts hs cs = measured (writeFault v ts hs cs) (length (bytesOf v (e
 -- an edge that may be laid after one with this tail: its tail does not fall, and each of its numbers has a form
 pub record LayableEdge (last : ℕ) (e : Edge) : Type 0 where
   pub rises : last ≤ e .tail
-  pub tail : e .tail < 2097152
-  pub head : e .head < 2097152
-  pub cost : e .cost < 2097152
+  pub tail : e .tail < 128 ^ planGroups
+  pub head : e .head < 128 ^ planGroups
+  pub cost : e .cost < 128 ^ planGroups
 
 abbrev pub Layable : ℕ → List Edge → Type 0
 Layable last [] = Unit {0}
 Layable last (e ∷ es) = LayableEdge last e × Layable (e .tail) es
+
+-- what may be laid, and has room at the offset: an edge, all edges, the whole plan
+pub record EdgeFits (out : List ℕ) (at last : ℕ) (e : Edge) : Type 0 where
+  pub layable : LayableEdge last e
+  pub room : at + length (edgeBytes last e) ≤ length out
+
+pub record EdgesFit (out : List ℕ) (start : ℕ) (ts hs cs : List ℕ) : Type 0 where
+  pub equal : Equal ts hs cs
+  pub layable : Layable 0 (edgesOf ts hs cs)
+  pub room : start + length (edgesBytes 0 (edgesOf ts hs cs)) ≤ length out
+
+pub record PlanFits (out : List ℕ) (v : ℕ) (ts hs cs : List ℕ) : Type 0 where
+  pub passes : writeFault v ts hs cs ≡ none
+  pub room : length (bytesOf v (edgesOf ts hs cs)) ≤ length out

@@ -4,9 +4,10 @@ ghost use mathlib.Core.Path.{_≡_};
 ghost use Prim.Native.Nat.{_+_, _<_, _≤_};
 ghost use lib.ListN.{length};
 ghost use lib.Seq.{sets};
+ghost use Rattle.graph.specs.Limits.{maxEdges};
 ghost use Rattle.graph.specs.Plan.{firstAt};
-ghost use Rattle.graph.specs.Lists.{over, none, edgesOf, edgesFault, writeFault, edgeBytes, edgesBytes, bytesOf, writeAnswer, outAfter};
-ghost use Rattle.graph.specs.Writing.{edgeAt, Equal, falls, edgeMeasured, edgesMeasured, planMeasured, LayableEdge, Layable};
+ghost use Rattle.graph.specs.Lists.{over, edgesOf, edgeBytes, edgesBytes, bytesOf, writeAnswer, outAfter};
+ghost use Rattle.graph.specs.Writing.{edgeAt, Equal, falls, edgeMeasured, edgesMeasured, planMeasured, EdgeFits, EdgesFit, PlanFits};
 use crate::Cursor;
 use crate::Edge;
 use crate::EdgeRead;
@@ -71,14 +72,10 @@ fn measure_edges(
     costs: &[u32],
     start: usize,
 ) -> PlanWritten
-    requires { ⌜ Equal (now tails) (now heads) (now costs) × (length (now tails) ≤ 32768) × (start ≤ 6) ⌝ }
+    requires { ⌜ Equal (now tails) (now heads) (now costs) × (length (now tails) ≤ maxEdges) × (start ≤ 6) ⌝ }
     ensures { λ r. ⌜ r ≡ edgesMeasured vertices (firstAt start) 0 (edgesOf (now (tails .entry)) (now (heads .entry)) (now (costs .entry))) ⌝ }
 {
-    let mut cursor = Cursor {
-        at: start,
-        tail: 0,
-        least: 0,
-    };
+    let mut cursor = Cursor::first(start);
     let mut i = 0;
     while i < tails.len() {
         let edge = edge_at(tails, heads, costs, i);
@@ -119,9 +116,9 @@ fn measure(vertices: u32, tails: &[u32], heads: &[u32], costs: &[u32]) -> PlanWr
     measure_edges(vertices, tails, heads, costs, start)
 }
 
-// Writes an edge's bytes, and gives the cursor past them.
+// Writes an edge's bytes after an edge with this tail, and gives the offset past them.
 fn lay_edge(out: &mut [u8], at: usize, tail: u32, edge: Edge) -> usize
-    requires { ⌜ LayableEdge tail edge × (at + length (edgeBytes tail edge) ≤ length (now out)) ⌝ }
+    requires { ⌜ EdgeFits (now out) at tail edge ⌝ }
     ensures { λ r. ⌜ r ≡ at + length (edgeBytes tail edge) ⌝ }
     ensures { λ _. ⌜ now (out .exit) ≡ sets (now (out .entry)) at (edgeBytes tail edge) ⌝ }
 {
@@ -140,8 +137,7 @@ fn lay_edge(out: &mut [u8], at: usize, tail: u32, edge: Edge) -> usize
 
 // Writes the bytes of all edges from `start` on.
 fn lay_edges(tails: &[u32], heads: &[u32], costs: &[u32], out: &mut [u8], start: usize)
-    requires { ⌜ Equal (now tails) (now heads) (now costs) × Layable 0 (edgesOf (now tails) (now heads) (now costs)) ⌝ }
-    requires { ⌜ start + length (edgesBytes 0 (edgesOf (now tails) (now heads) (now costs))) ≤ length (now out) ⌝ }
+    requires { ⌜ EdgesFit (now out) start (now tails) (now heads) (now costs) ⌝ }
     ensures { λ _. ⌜ now (out .exit) ≡ sets (now (out .entry)) start (edgesBytes 0 (edgesOf (now (tails .entry)) (now (heads .entry)) (now (costs .entry)))) ⌝ }
 {
     let mut at = start;
@@ -155,10 +151,9 @@ fn lay_edges(tails: &[u32], heads: &[u32], costs: &[u32], out: &mut [u8], start:
     }
 }
 
-// Writes the plan's bytes where none is refused and there is room.
+// Writes the bytes of a plan that has no refusal and has room.
 fn lay(vertices: u32, tails: &[u32], heads: &[u32], costs: &[u32], out: &mut [u8])
-    requires { ⌜ writeFault vertices (now tails) (now heads) (now costs) ≡ none ⌝ }
-    requires { ⌜ length (bytesOf vertices (edgesOf (now tails) (now heads) (now costs))) ≤ length (now out) ⌝ }
+    requires { ⌜ PlanFits (now out) vertices (now tails) (now heads) (now costs) ⌝ }
     ensures { λ _. ⌜ now (out .exit) ≡ over (bytesOf vertices (edgesOf (now (tails .entry)) (now (heads .entry)) (now (costs .entry)))) (now (out .entry)) ⌝ }
 {
     let count = tails.len() as u32;

@@ -2,10 +2,9 @@
 -- Assumes nothing.
 use mathlib.Core.Path.{_≡_, refl, sym, ap, _∙_, subst}
 use mathlib.Core.Logic.{_⊎_, inl, inr, _↔_}
-use mathlib.Core.Bool.{Bool, true, false, cond, not}
-use mathlib.Core.List.{List, [], _∷_, map, List·Memᴰ}
-use Prim.Native.Nat.{ℕ, zero, suc, _+_, _-_, _*_, _≤_, _<_, suc-le-suc}
-use native.Mathlib.Nat.{le-refl}
+use mathlib.Core.Bool.{not}
+use mathlib.Core.List.{List, List·Memᴰ}
+use Prim.Native.Nat.{ℕ, zero, suc, _-_, _*_, _≤_, _<_, suc-le-suc}
 use native.Mathlib.Omega.{arith}
 use lib.ListN.{length, take}
 use lib.Dec.{T, eqb}
@@ -16,22 +15,22 @@ use Rattle.search.specs.declared.Answer.{Answer}
 use Rattle.search.specs.declared.Answer.the-variants.{NoRoute, Unfinished}
 use Rattle.search.specs.declared.Answer.the-variants
 use Rattle.search.specs.Walk.{Walk, NoWalk}
-use Rattle.search.specs.Job.{Job, factors, unreached, at}
-use Rattle.search.specs.Rounds.{State, Stand, Moment, Outcome, begin, advance, run, moments, search}
+use Rattle.search.specs.Job.{Job, factors, at}
+use Rattle.search.specs.Rounds.{State, Stand, Moment, begin, run, moments, search}
 use Rattle.graph.specs.Lists.{none}
-use Rattle.search.specs.Call.{Memory, Call, faultOf, jobOf}
-use Rattle.search.specs.Outcome.{Ending, route, noRoute, unfinished, refused, figures, bound, summary, cutShort, answerAt, answerOf, routeAfter, logWord, logAfter, outcome, answerIn, answer, memoryIn, memoryAfter}
-use Rattle.search.specs.Guarantee.{Linked, EachTwo, Twice, inRound, roundOf, Cut, Guarantee, Guaranteed}
+use Rattle.search.specs.Call.{Call, faultOf, jobOf}
+use Rattle.search.specs.Outcome.{Ending, route, noRoute, unfinished, refused, figures, bound, summary, cutShort, answerAt, answerOf, routeAfter, logAfter, outcome, answerIn, answer, memoryIn, memoryAfter}
+use Rattle.search.specs.Guarantee.{EachTwo, Twice, inRound, roundOf, Cut, Guarantee, Guaranteed}
 use Rattle.search.proofs.Tools.{cond-ind}
 use Rattle.search.proofs.Facts.{Valid, Steady}
 use Rattle.search.proofs.Legal.{Between, between, no-walk, goal-unreached}
-use Rattle.search.proofs.Runs.{run-suc, linked, moments-within, moments-more, moments-full, counts, begin-expansions, stuck≢due, finished≢due}
+use Rattle.search.proofs.Runs.{linked, moments-within, moments-more, moments-full, counts, begin-expansions, stuck≢due, finished≢due}
 use Rattle.search.proofs.Incumbent
 use Rattle.search.proofs.Twice.{each-twice, moments-inside, moments-scheduled}
 use Rattle.search.proofs.Counting.{few-in-round, few-in-all}
 use Rattle.search.proofs.Admitted.{admitted}
 use Rattle.search.proofs.Words.{route-words, log-words}
-use Rattle.search.proofs.Standing.{Good, Ok, Says, says-due, begin-good, run-good, steady, rounds-by}
+use Rattle.search.proofs.Standing.{Good, Says, begin-good, run-good, steady, rounds-by}
 
 -- ---- endings differ
 

@@ -1,11 +1,10 @@
 -- What holds wherever the search stands, from the first state on, and of each turn.
 -- Assumes nothing.
 use mathlib.Core.Path.{_≡_, refl, sym, ap, _∙_, subst}
-use mathlib.Core.Logic.{_≢_}
-use mathlib.Core.Bool.{Bool, true, false, cond, not, _||_}
+use mathlib.Core.Bool.{not}
 use mathlib.Core.List.{List, [], _∷_, List·Memᴰ, List·Memᴰ·head, List·Memᴰ·tail, List·Memᴰ·not-nil}
-use Prim.Native.Nat.{ℕ, zero, suc, _+_, _-_, _*_, _≤_, _<_}
-use native.Mathlib.Nat.{le-refl, le-trans, le-of-eq}
+use Prim.Native.Nat.{ℕ, zero, suc, _+_, _*_, _≤_, _<_}
+use native.Mathlib.Nat.{le-refl, le-trans}
 use native.Mathlib.Omega.{arith}
 use lib.ListN.{length}
 use lib.Dec.{T}
@@ -22,7 +21,7 @@ use Rattle.search.specs.Guarantee.{roundOf}
 use Rattle.search.proofs.Tools.{or-left, or-right}
 use Rattle.search.proofs.Facts.{Valid, InRange, TracedWalk, Left, Free, Steady}
 use Rattle.search.proofs.Moves.{Moved, same, down, After, self, other, after}
-use Rattle.search.proofs.Sound.{Tidy, Sound, moved-v, moved-anchor}
+use Rattle.search.proofs.Sound.{moved-v, moved-anchor}
 use Rattle.search.proofs.Ground.{Ground}
 use Rattle.search.proofs.Legal
 use Rattle.search.proofs.Legal.{AnchorLeads, Going, Legal, Reachable, Between, between, least-bound, round-bound}
@@ -78,7 +77,7 @@ settle-same job (suc n) s e = by (step job s) e
 module _ (job : Job) (v : Valid job) where
   -- the trace from a reached goal is a walk
   traces : (s : State) → Ground job (s .vertices) → at (s .vertices) (job .goal) .g < unreached → TracedWalk job s
-  traces s g r = traced-walk job v s (g .sized) (λ u. g .sound .tidy u .le) (g .backs (job .goal) r .way) r
+  traces s g r = traced-walk job v s (g .sized) (λ u. g .sound .proper u .le) (g .backs (job .goal) r .way) r
 
   in-range : (s : State) → s .progress .rounds < length (job .schedule) → InRange (inHand job s .w1) (inHand job s .w2)
   unfolding inHand
@@ -181,7 +180,7 @@ module _ (job : Job) (v : Valid job) where
 
     free : Free job c s
     free =
-        let p = b .ground .sound .tidy (c .vertex) .waits (legal .opened) in
+        let p = b .ground .sound .proper (c .vertex) .waits (legal .opened) in
         record { inside = omega (arith, legal .inside, b .ground .sized); anchor = p .1; guide = legal .guide; below = p .0 }
 
     rises : s .progress .rounds ≤ advance job z .state .progress .rounds
@@ -235,7 +234,7 @@ module _ (job : Job) (v : Valid job) where
         free = free job v;
         rises = rises job v;
         keeps = λ z m a y e k x i c l.
-            left-stays (between job v (y .ok .reach) .ground .sound .tidy _ .le) (steps job v z m a y e k x) i c l;
+            left-stays (between job v (y .ok .reach) .ground .sound .proper _ .le) (steps job v z m a y e k x) i c l;
         leaves = λ z m a y e k. left-new (steps job v z m a y e k _);
         scheduled = λ z m a y e. says-due y e .0;
       }

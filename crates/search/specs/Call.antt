@@ -3,7 +3,7 @@ use Prim.Native.Nat.{ℕ, zero, suc, _+_, _*_, _%_}
 use mathlib.Core.Bool.{Bool, false, cond, not, _&&_, _||_}
 use mathlib.Core.List.{List, [], _∷_}
 use lib.ListN.{length, getD, take, drop}
-use lib.Dec.{ltb, leb, eqb}
+use lib.Dec.{ltb, eqb}
 use Rattle.graph.specs.declared.Edge.{Edge}
 use Rattle.graph.specs.Plan.{Decoded, accepted, refused, decode}
 use Rattle.graph.specs.Lists.{Fault, none, fault}

@@ -1,13 +1,12 @@
 -- The guarantee (the promise of demand 3): one record about a planner call that is not refused, and its whole list of turns.
-use Prim.Native.Nat.{ℕ, suc, _+_, _-_, _*_, _≤_, _<_}
+use Prim.Native.Nat.{ℕ, _-_, _*_, _≤_, _<_}
 use mathlib.Core.Path.{_≡_}
 use mathlib.Core.Logic.{_⊎_, _↔_}
-use mathlib.Core.Bool.{Bool, true, false, cond}
+use mathlib.Core.Bool.{true, false, cond}
 use mathlib.Core.List.{List, [], _∷_, map, List·Memᴰ}
 use lib.ListN.{length, take}
 use lib.Dec.{eqb}
 use Rattle.graph.specs.Lists.{none}
-use Rattle.search.specs.declared.Step.{Step}
 use Rattle.search.specs.declared.Step.the-variants.{Due}
 use Rattle.search.specs.declared.Answer.{Answer}
 use Rattle.search.specs.Walk.{Walk, NoWalk}
@@ -16,6 +15,10 @@ use Rattle.search.specs.Turn.{isAnchor}
 use Rattle.search.specs.Rounds.{Stand, Moment, Outcome, begin, advance, choice}
 use Rattle.search.specs.Call.{Memory, Call, faultOf, jobOf}
 use Rattle.search.specs.Outcome.{route, noRoute, unfinished, figures, bound, logWord, outcome, answer, memoryAfter}
+
+-- a walk from the job's start to its goal
+abbrev pub Joins : Job → List ℕ → ℕ → Type 0
+Joins job r n = Walk (job .edges) (job .start) (job .goal) r n
 
 -- ---- of one turn: functions of the state before it, and of the choice
 
@@ -74,32 +77,29 @@ pub record Guarantee (job : Job) (budget : ℕ) (o : Outcome) (a : Answer) (memo
   pub no-round : figures a .ending ≡ noRoute → o .final .state .progress .rounds ≡ 0
   -- 2. unfinished exactly if step 2 ends the first round; else a route if there is a walk, and no route if there is none
   pub cut : figures a .ending ≡ unfinished ↔ Cut budget o
-  pub found : (Cut budget o → ⊥) → (r : List ℕ) (n : ℕ) → Walk (job .edges) (job .start) (job .goal) r n → figures a .ending ≡ route
+  pub found : (Cut budget o → ⊥) → (r : List ℕ) (n : ℕ) → Joins job r n → figures a .ending ≡ route
   pub missing : (Cut budget o → ⊥) → NoWalk (job .edges) (job .start) (job .goal) → figures a .ending ≡ noRoute
   -- so a budget of 2·V turns ends the first round, and one of 2·V for each round ends them all
   pub enough : 2 * job .size ≤ budget → figures a .ending ≡ unfinished → ⊥
   pub ample :
       2 * job .size * length (job .schedule) ≤ budget → (figures a .ending ≡ noRoute) ⊎ (figures a .rounds ≡ length (job .schedule))
   -- 3. the route's words are a walk from start to goal, and the stated cost is the sum of its edges' costs
-  pub walk : figures a .ending ≡ route → Walk (job .edges) (job .start) (job .goal) (take (figures a .length) (memory .route)) (figures a .cost)
+  pub walk : figures a .ending ≡ route → Joins job (take (figures a .length) (memory .route)) (figures a .cost)
   pub some : figures a .ending ≡ route → 1 ≤ figures a .length
   pub short : figures a .ending ≡ route → figures a .length ≤ job .size
   -- 4. the bound holds, and it is W1·W2 of the last finished round
-  pub bounded :
-      figures a .ending ≡ route → (r : List ℕ) (n : ℕ) → Walk (job .edges) (job .start) (job .goal) r n →
-      10000 * figures a .cost ≤ figures a .bound * n
+  pub bounded : figures a .ending ≡ route → (r : List ℕ) (n : ℕ) → Joins job r n → 10000 * figures a .cost ≤ figures a .bound * n
   pub bound-is :
-      figures a .ending ≡ route →
-      figures a .bound ≡ factors job (figures a .rounds - 1) .w1 * factors job (figures a .rounds - 1) .w2
+      figures a .ending ≡ route → figures a .bound ≡ factors job (figures a .rounds - 1) .w1 * factors job (figures a .rounds - 1) .w2
   pub counted : figures a .ending ≡ route → (1 ≤ figures a .rounds) × (figures a .rounds ≤ length (job .schedule))
   pub rounds-are : figures a .ending ≡ route → figures a .rounds ≡ o .final .state .progress .rounds
   -- 5. each finished round bounds the route; with both factors 100 no walk costs less
   pub each :
-      figures a .ending ≡ route → (f : ℕ) → f < figures a .rounds → (r : List ℕ) (n : ℕ) → Walk (job .edges) (job .start) (job .goal) r n →
+      figures a .ending ≡ route → (f : ℕ) → f < figures a .rounds → (r : List ℕ) (n : ℕ) → Joins job r n →
       10000 * figures a .cost ≤ factors job f .w1 * factors job f .w2 * n
   pub cheapest :
       figures a .ending ≡ route → (f : ℕ) → f < figures a .rounds → factors job f .w1 ≡ 100 → factors job f .w2 ≡ 100 →
-      (r : List ℕ) (n : ℕ) → Walk (job .edges) (job .start) (job .goal) r n → figures a .cost ≤ n
+      (r : List ℕ) (n : ℕ) → Joins job r n → figures a .cost ≤ n
   -- 6. the turns are linked from the first state to the last; in a round, finished or cut, a vertex is expanded at most once for
   -- the inadmissible heuristics and once for the anchor, the second time at a lower g, and there are at most 2·V turns
   pub linked : Linked job (begin job) (o .history) (o .final)

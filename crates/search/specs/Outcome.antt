@@ -1,8 +1,8 @@
 -- What a planner call hands over: its answer, and lent memory.
 use Prim.Native.Nat.{ℕ, zero, suc, _+_, _-_, _*_}
-use mathlib.Core.Bool.{Bool, cond}
+use mathlib.Core.Bool.{cond}
 use mathlib.Core.List.{List, [], _∷_, _++_, map}
-use lib.ListN.{length, take, drop, replicate}
+use lib.ListN.{length, take, replicate}
 use lib.Dec.{ltb, eqb}
 use Rattle.graph.specs.declared.Edge.{Edge}
 use Rattle.graph.specs.Plan.{decode}
@@ -63,16 +63,8 @@ pub record Figures : Type 0 where
 
 unfoldable pub figures : Answer → Figures
 figures (Route s) =
-    record {
-      ending = route;
-      number = 0;
-      position = 0;
-      cost = s .cost;
-      length = s .length;
-      rounds = s .rounds;
-      turns = s .expansions;
-      bound = s .bound;
-    }
+    let t : ℕ = s .expansions in
+    record { ending = route; number = 0; position = 0; cost = s .cost; length = s .length; rounds = s .rounds; turns = t; bound = s .bound }
 figures (NoRoute t) = record { ending = noRoute; number = 0; position = 0; cost = 0; length = 0; rounds = 0; turns = t; bound = 0 }
 figures (Unfinished t) = record { ending = unfinished; number = 0; position = 0; cost = 0; length = 0; rounds = 0; turns = t; bound = 0 }
 figures (Refused n p) = record { ending = refused; number = n; position = p; cost = 0; length = 0; rounds = 0; turns = 0; bound = 0 }

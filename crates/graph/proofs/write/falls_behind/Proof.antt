@@ -1,44 +1,33 @@
 -- `falls_behind` meets its contract: both numbers fit, and their order is that of the tails, then of the heads. Assumes nothing.
-use Rattle.graph.proofs.Writer.{falls-as-one}
+use Rattle.graph.proofs.Measuring.{falls-as-one}
 use borrow.Author.Needs.{needs}
 use Rattle.graph.proofs.write.falls_behind.Statement.{statement}
 use Rattle.graph.proofs.write.falls_behind.Tie as tie
-use Rattle.graph.proofs.write.falls_behind.Reads as reads
-use Rattle.graph.proofs.write.falls_behind.Lts as lts
 
--- src/write.rt:34:31
 cast-found : tie.Need-cast-found
 cast-found c = search needs
 
--- src/write.rt:34:17
 mul-found : tie.Need-mul-found
 mul-found c = search needs
 
--- src/write.rt:34:52
 cast-found-2 : tie.Need-cast-found-2
 cast-found-2 c = search needs
 
--- src/write.rt:34:17
 add-found : tie.Need-add-found
 add-found c = search needs
 
--- src/write.rt:35:31
 cast-least : tie.Need-cast-least
 cast-least c = search needs
 
--- src/write.rt:35:17
 mul-least : tie.Need-mul-least
 mul-least c = search needs
 
--- src/write.rt:35:54
 cast-least-2 : tie.Need-cast-least-2
 cast-least-2 c = search needs
 
--- src/write.rt:35:17
 add-least : tie.Need-add-least
 add-least c = search needs
 
--- src/write.rt:31:1
 returns : tie.Need-returns
 returns c = falls-as-one _ _ (search needs) (search needs)
 

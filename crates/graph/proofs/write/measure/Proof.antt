@@ -8,62 +8,46 @@ use Rattle.graph.proofs.Writer.{none-refused, many-refused, long-refuse
 use borrow.Author.Needs.{needs}
 use Rattle.graph.proofs.write.measure.Statement.{statement}
 use Rattle.graph.proofs.write.measure.Tie as tie
-use Rattle.graph.proofs.write.measure.Reads as reads
-use Rattle.graph.proofs.write.measure.Lts as lts
-use Rattle.graph.proofs.write.measure_edges.Reads as measure-edges-reads
-use Rattle.leb128.proofs.plan_number_len.Reads as plan-number-len-reads
 
--- src/write.rt:105:9
 returns : tie.Need-returns
 returns c = none-refused _ _ _ _ (c .if1 .taken)
 
--- src/write.rt:108:9
 returns-2 : tie.Need-returns-2
 returns-2 c = many-refused _ _ _ _ (c .if2 .taken)
 
--- src/write.rt:110:9
 cast-if3 : tie.Need-cast-if3
 cast-if3 c = search needs
 
--- src/write.rt:111:9
 returns-3 : tie.Need-returns-3
 returns-3 c = long-refused _ _ _ _ (c .before .before .if1 .left) (c .before .if2 .left) (c .if3 .taken)
 
--- src/write.rt:114:9
 returns-4 : tie.Need-returns-4
 returns-4 c = heads-refused _ _ _ _ (c .before .before .before .if1 .left) (c .before .before .if2 .left) (c .before .if3 .left) (c .if4 .taken)
 
--- src/write.rt:117:9
 returns-5 : tie.Need-returns-5
 returns-5 c = costs-refused _ _ _ _ (c .before .before .before .before .if1 .left) (c .before .before .before .if2 .left) (c .before .before .if3 .left) (c .before .if4 .left) (c .if5 .taken)
 
--- src/write.rt:119:17
 cast-count : tie.Need-cast-count
 cast-count c = search needs
 
--- src/write.rt:120:17
 plan-number-len-requires : tie.Need-plan-number-len-requires
 plan-number-len-requires c κs = search needs
 
--- src/write.rt:120:53
 plan-number-len-requires-2 : tie.Need-plan-number-len-requires-2
 plan-number-len-requires-2 c κs = search needs
 
--- src/write.rt:120:17
 add-start : tie.Need-add-start
 unfolding planGroups
 add-start c =
     let a = c .before .before .before .before .before .before .before .before .before .before .args in
     omega (arith, encode-few 3 (a .vertices), encode-few 3 (length (a .tails .now)))
 
--- src/write.rt:121:5
 measure-edges-requires : tie.Need-measure-edges-requires
 unfolding planGroups
 measure-edges-requires c κs =
     let a = c .before .before .before .before .before .before .before .before .before .before .args in
     (record { heads = c .before .before .before .if4 .left; costs = c .before .before .if5 .left }, c .before .before .before .before .if3 .left, omega (arith, encode-few 3 (a .vertices), encode-few 3 (length (a .tails .now))))
 
--- src/write.rt:101:1
 returns-6 : tie.Need-returns-6
 returns-6 c =
     c .measure-edges .ensures ∙ all-measured _ _ _ _ (c .before .before .before .before .before .before .before .if1 .left) (c .before .before .before .before .before .before .if2 .left) (c .before .before .before .before .before .if3 .left) _ (record { heads = c .before .before .before .before .if4 .left; costs = c .before .before .before .if5 .left }) (omega (arith, c .before .before .plan-number-len .ensures, c .before .plan-number-len2 .ensures))

@@ -3,14 +3,10 @@ use Prim.Native.Nat.{_≤_, _-_}
 use native.Mathlib.Omega.{arith}
 use mathlib.Core.Path.{sym, _∙_}
 use lib.ListN.{length}
-use Rattle.graph.proofs.Writer.{Measuring, measuring-first, measuring-end, measuring-refused, measuring-next}
+use Rattle.graph.proofs.Measuring.{Measuring, measuring-first, measuring-end, measuring-refused, measuring-next}
 use borrow.Author.Needs.{needs}
 use Rattle.graph.proofs.write.measure_edges.Statement.{statement}
 use Rattle.graph.proofs.write.measure_edges.Tie as tie
-use Rattle.graph.proofs.write.measure_edges.Reads as reads
-use Rattle.graph.proofs.write.measure_edges.Lts as lts
-use Rattle.graph.proofs.write.edge_at.Reads as edge-at-reads
-use Rattle.graph.proofs.write.measure_edge.Reads as measure-edge-reads
 
 abbrev Inv-loop : tie.InvT-loop
 Inv-loop vertices tails heads costs start cursor₀ i₀ cursor i = (i ≤ length tails) × Measuring vertices tails heads costs start cursor i
@@ -18,54 +14,44 @@ Inv-loop vertices tails heads costs start cursor₀ i₀ cursor i = (i ≤ lengt
 abbrev μ-loop : tie.MeasureT-loop
 μ-loop vertices tails heads costs start cursor₀ i₀ cursor i = length tails - i
 
--- src/write.rt:79:5
+first-requires : tie.Need-first-requires Inv-loop μ-loop
+first-requires c κs = search needs
+
 loop-holds : tie.Need-loop-holds Inv-loop μ-loop
-loop-holds c = (search needs, measuring-first _ _ _ _ _)
+loop-holds c = (search needs, measuring-first _ _ _ _ _ _ (c .first .ensures))
 
--- src/write.rt:80:13
 edge-at-requires : tie.Need-edge-at-requires Inv-loop μ-loop
-edge-at-requires c κs = (c .before .before .before .before .before .pre .0, c .loop-test .taken)
+edge-at-requires c κs = (c .before .before .before .before .before .before .pre .0, c .loop-test .taken)
 
--- src/write.rt:81:15
 measure-edge-requires : tie.Need-measure-edge-requires Inv-loop μ-loop
 measure-edge-requires c κs = omega (arith, c .before .before .loop .inv .1 .few)
 
--- src/write.rt:82:31
 enum-known-past : tie.Need-enum-known-past Inv-loop μ-loop
 enum-known-past c = search needs
 
--- src/write.rt:85:29
 enum-known-n : tie.Need-enum-known-n Inv-loop μ-loop
 enum-known-n c = search needs
 
--- src/write.rt:86:17
 returns : tie.Need-returns Inv-loop μ-loop
 returns c =
-    let a = c .before .before .before .before .before .before .before .before .before .before .args in
-    measuring-refused (a .vertices) (a .tails .now) (a .heads .now) (a .costs .now) (a .start) (c .before .before .before .before .before .before .loop .cursor) (c .before .before .before .before .before .before .loop .i) (c .before .before .before .before .before .before .loop .inv .1) (c .before .before .before .before .before .before .before .before .before .before .pre .0) (c .before .before .before .before .before .loop-test .taken) _ (c .before .before .before .before .edge-at .ensures) _ _
+    measuring-refused (c .before .before .before .before .before .before .loop .inv .1) (c .before .before .before .before .before .before .before .before .before .before .before .pre .0) (c .before .before .before .before .before .loop-test .taken) (c .before .before .before .before .edge-at .ensures)
     (sym (c .before .before .before .measure-edge .ensures) ∙ c .before .n .given .1)
 
--- src/write.rt:89:9
 add-i : tie.Need-add-i Inv-loop μ-loop
 add-i c = search needs
 
--- src/write.rt:79:5
 loop-less : tie.Need-loop-less Inv-loop μ-loop
 loop-less c = search needs
 
--- src/write.rt:79:5
 loop-again : tie.Need-loop-again Inv-loop μ-loop
-loop-again c =
-    let a = c .before .before .before .before .before .before .before .before .before .before .args in (
-      search needs,
-      measuring-next (a .vertices) (a .tails .now) (a .heads .now) (a .costs .now) (a .start) (c .before .before .before .before .before .before .loop .cursor) (c .before .before .before .before .before .before .loop .i) (c .before .before .before .before .before .before .loop .inv .1) (c .before .before .before .before .before .before .before .before .before .before .pre .0) (c .before .before .before .before .before .loop-test .taken) _ (c .before .before .before .before .edge-at .ensures) _ _ (sym (c .before .before .before .measure-edge .ensures) ∙ c .before .past .given .1),
-    )
+loop-again c = (
+  search needs,
+  measuring-next (c .before .before .before .before .before .before .loop .inv .1) (c .before .before .before .before .before .before .before .before .before .before .before .pre .0) (c .before .before .before .before .before .loop-test .taken) (c .before .before .before .before .edge-at .ensures)
+      (sym (c .before .before .before .measure-edge .ensures) ∙ c .before .past .given .1),
+)
 
--- src/write.rt:69:1
 returns-2 : tie.Need-returns-2 Inv-loop μ-loop
-returns-2 c =
-    let a = c .before .before .before .before .before .args in
-    measuring-end (a .vertices) (a .tails .now) (a .heads .now) (a .costs .now) (a .start) (c .before .loop .cursor) (c .before .loop .i) (c .before .loop .inv .1) (c .loop-test .left)
+returns-2 c = measuring-end (c .before .loop .inv .1) (c .loop-test .left)
 
 pub measure-edges-spec : {M : Type 1} → statement M
 measure-edges-spec =
@@ -73,6 +59,7 @@ measure-edges-spec =
     (tie.spec
     Inv-loop
     μ-loop
+    first-requires
     loop-holds
     edge-at-requires
     measure-edge-requires
