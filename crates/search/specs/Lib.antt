@@ -3,5 +3,6 @@ pub mod Job
 pub mod Turn
 pub mod Rounds
 pub mod Call
+pub mod Admitted
 pub mod Outcome
 pub mod Guarantee
