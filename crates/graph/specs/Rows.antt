@@ -26,11 +26,11 @@ vertexCountRows v = row (eqb v 0 || ltb maxVertices v) 2 ∷ []
 unfoldable pub edgeCountRows : ℕ → List Row
 edgeCountRows m = row (ltb maxEdges m) 3 ∷ []
 
--- the tail, as a difference d to the tail before it: not a place
+-- the tail, as a difference d to the tail before it: not a vertex (place)
 unfoldable pub tailRows : ℕ → ℕ → ℕ → List Row
 tailRows v tail d = row (leb v (tail + d)) 4 ∷ []
 
--- the head: not a place; not above the last head of that tail, where `least` is the least head that is
+-- the head: not a vertex; not above the last head of that tail, where `least` is the least head that is
 unfoldable pub headRows : ℕ → ℕ → ℕ → List Row
 headRows v least h = row (leb v h) 4 ∷ row (ltb h least) 6 ∷ []
 

@@ -70,6 +70,7 @@ turn job c s =
 -- ---- a round's end
 
 -- predecessors traced from x back to the start, at most n vertices, before those of r
+-- (V suffice, since predecessors form no cycle: else this would not begin at the start, and the guarantee's `walk` would fail)
 unfoldable pub trace : List Vertex → ℕ → ℕ → ℕ → List ℕ → List ℕ
 trace st start zero x r = r
 trace st start (suc n) x r = elim (eqb x start) [ true ↦ x ∷ r | false ↦ trace st start n (at st x .pred) (x ∷ r) ]
@@ -77,7 +78,7 @@ trace st start (suc n) x r = elim (eqb x start) [ true ↦ x ∷ r | false ↦ t
 unfoldable pub traced : Job → State → List ℕ
 traced job s = trace (s .vertices) (job .start) (job .size) (job .goal) []
 
--- does a route of this cost become the incumbent: none is kept yet, or it is strictly cheaper
+-- does a route of this cost become the incumbent: none is kept yet (each finished round keeps one), or it is strictly cheaper
 unfoldable pub improves : RouteCost → Progress → Bool
 improves Broken p = false
 improves (Cost c) p = eqb (p .rounds) 0 || ltb c (p .cost)
@@ -91,7 +92,7 @@ unfoldable pub reopened : Vertex → Vertex
 reopened p =
     record { g = p .g; v = p .v; pred = p .pred; inad = false; anchor = false; opened = p .incons || p .opened; incons = false }
 
--- a round is finished, and the next begins if there is one
+-- a round is finished, and the next begins if there is one: after the last none does, and its marks stay
 unfoldable pub endRound : Job → State → State
 endRound job s =
     let c : RouteCost = routeCost (job .edges) (traced job s) in
@@ -104,7 +105,7 @@ endRound job s =
 
 -- ---- the search
 
--- the state, and what step 1 said of it: Finished where every round is finished
+-- the search between two turns, and what step 1, repeated while it finishes a round, says at last: Finished where no round is left
 pub record Stand : Type 0 where
   pub step : Step
   pub state : State
@@ -114,7 +115,7 @@ onFinished Stuck s k = record { step = Stuck; state = s }
 onFinished Finished s k = k s
 onFinished (Due m a) s k = record { step = Due m a; state = s }
 
--- step 1, again and again while it finishes a round, where n rounds are not finished yet
+-- step 1, again and again while it finishes a round, where n rounds are not finished yet; before step 2, so no turn need be left
 unfoldable pub settle : Job → ℕ → State → Stand
 settle job zero s = record { step = Finished; state = s }
 settle job (suc n) s = onFinished (step job s) s (λ t. settle job n (endRound job t))
@@ -141,14 +142,14 @@ onDue (Due m a) x k = k m a
 unfoldable pub advance : Job → Stand → Stand
 advance job z = onDue (z .step) z (λ m a. settled job (turn job (choice job m a (z .state)) (z .state)))
 
--- at most n turns
+-- at most n turns (the recursion waits in a case: a budget of 4,294,967,295 costs nothing)
 unfoldable pub run : Job → ℕ → Stand → Stand
 run job zero z = z
 run job (suc n) z = onDue (z .step) z (λ m a. run job n (advance job z))
 
 -- ---- the list of turns
 
--- a turn: the state before it, with the heuristic whose turn it was, and the choice made
+-- a turn: the state before it, whose progress names the guide that had the turn, and what was expanded, for whom
 pub record Moment : Type 0 where
   pub before : State
   pub choice : Choice
