@@ -1,4 +1,4 @@
--- What the private functions of this crate give: for their contracts alone, nothing that a reader must believe.
+-- The record at first, and what the private functions of this crate give: for contracts alone, nothing that a reader must believe.
 use Prim.Native.Nat.{ℕ, suc}
 use mathlib.Core.Bool.{Bool, cond, not}
 use Rattle.search.specs.declared.Progress.{Progress}
@@ -7,6 +7,10 @@ use Rattle.search.specs.Rounds.{firstTurn, nextTurn}
 -- the largest count of turns or rounds
 abbrev pub maxCount : ℕ
 maxCount = 4294967295
+
+-- the record at first
+unfoldable pub firstProgress : ℕ → Progress
+firstProgress n = record { turn = firstTurn n; expansions = 0; rounds = 0; cost = 0 }
 
 -- whose turn it is after a round's end, or after a turn
 unfoldable pub turnAfter : Bool → ℕ → ℕ → ℕ

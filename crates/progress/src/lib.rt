@@ -3,9 +3,21 @@ ghost use mathlib.Core.Path.{_≡_};
 ghost use mathlib.Core.Bool.{cond};
 ghost use Prim.Native.Nat.{_<_};
 ghost use Rattle.search.specs.Rounds.{turned, ended};
-ghost use Rattle.progress.specs.Moved.{turnAfter, counted, moved, maxCount};
+ghost use Rattle.progress.specs.Moved.{firstProgress, turnAfter, counted, moved, maxCount};
 use search::Progress;
 use search::rules;
+
+// The record at first.
+pub fn at_first(guides: u32) -> Progress
+    ensures { λ r. ⌜ r ≡ firstProgress guides ⌝ }
+{
+    Progress {
+        turn: rules::first_turn(guides),
+        expansions: 0,
+        rounds: 0,
+        cost: 0,
+    }
+}
 
 // Whose turn it is after a round's end, or after a turn.
 fn turn_after(ends: bool, guides: u32, turn: u32) -> u32
