@@ -1,11 +1,11 @@
--- Laws of the record's step: what it leaves is what a turn and a round's end make of the record, and which count has room for one more.
+-- Laws of the record's step: what it leaves is what a turn and a round's end make of the record, whose turn it is, and which count has room for one more.
 -- Assumes nothing.
 use mathlib.Core.Path.{_≡_, refl}
 use mathlib.Core.Bool.{Bool, true, false, cond, not}
 use Prim.Native.Nat.{ℕ, _<_}
 use native.Mathlib.Omega.{arith}
 use Rattle.search.specs.declared.Progress.{Progress}
-use Rattle.search.specs.Rounds.{turned, ended}
+use Rattle.search.specs.Rounds.{firstTurn, nextTurn, turned, ended}
 use Rattle.progress.specs.Moved.{maxCount, turnAfter, counted, moved}
 
 -- ---- the count that goes up
@@ -17,6 +17,17 @@ room-turn false rounds turns h = h
 pub room-round : (ends : Bool) (rounds turns : ℕ) → cond ends rounds turns < maxCount → cond ends rounds 0 < maxCount
 room-round true rounds turns h = h
 room-round false rounds turns h = omega arith
+
+-- ---- whose turn it is
+
+module _ (ends : Bool) (n i r : ℕ) where
+  pub turn-restarted : ends ≡ true → r ≡ firstTurn n → r ≡ turnAfter ends n i
+  unfolding turnAfter
+  turn-restarted e f = rw e f
+
+  pub turn-passed : ends ≡ false → r ≡ nextTurn n i → r ≡ turnAfter ends n i
+  unfolding turnAfter
+  turn-passed e f = rw e f
 
 -- ---- the record
 

@@ -14,7 +14,7 @@ add-result c = let h = rw (c .if1 .taken) at (c .before .pre) in omega arith
 -- src/lib.rt:21:1
 returns : tie.Need-returns
 unfolding counted
-returns c = rw (c .if1 .taken, add-one)
+returns c = rw (c .if1 .taken) (add-one _)
 
 -- src/lib.rt:21:1
 returns-2 : tie.Need-returns-2

@@ -1,5 +1,5 @@
 -- `turn_after` meets its contract. Assumes nothing.
-use Rattle.progress.specs.Moved.{turnAfter}
+use Rattle.progress.proofs.Laws.{turn-restarted, turn-passed}
 use borrow.Author.Needs.{needs}
 use Rattle.progress.proofs.turn_after.Statement.{statement}
 use Rattle.progress.proofs.turn_after.Tie as tie
@@ -14,8 +14,7 @@ first-turn-requires c κs = search needs
 
 -- src/lib.rt:15:9
 returns : tie.Need-returns
-unfolding turnAfter
-returns c = rw (c .before .if1 .taken) (c .first-turn .ensures)
+returns c = turn-restarted _ _ _ _ (c .before .if1 .taken) (c .first-turn .ensures)
 
 -- src/lib.rt:17:5
 next-turn-requires : tie.Need-next-turn-requires
@@ -23,8 +22,7 @@ next-turn-requires c κs = search needs
 
 -- src/lib.rt:11:1
 returns-2 : tie.Need-returns-2
-unfolding turnAfter
-returns-2 c = rw (c .before .if1 .left) (c .next-turn .ensures)
+returns-2 c = turn-passed _ _ _ _ (c .before .if1 .left) (c .next-turn .ensures)
 
 pub turn-after-spec : {M : Type 1} → statement M
 turn-after-spec = tie.close (tie.spec first-turn-requires returns next-turn-requires returns-2)
