@@ -22,8 +22,8 @@ use Rattle.search.proofs.Tools.{same-cases}
 use Rattle.workspace.specs.declared.Size.{Size}
 use Rattle.workspace.specs.Layout.{verticesOf, graphOf}
 use Rattle.incumbent.specs.declared.Traced.{Traced}
-use Rattle.incumbent.specs.Kept.{tracedIn, measured}
-use Rattle.incumbent.specs.Steps.{plus, extended, Payable, maxWord, AtMost}
+use Rattle.incumbent.specs.Kept.{tracedIn}
+use Rattle.incumbent.specs.Steps.{measured, plus, extended, Payable, maxWord, AtMost}
 use Rattle.incumbent.proofs.Found.{cost-most}
 
 -- no vertex has no predecessor
