@@ -71,7 +71,7 @@ over-over : (new older old : List ℕ) → length new ≡ length older → over 
 unfolding over
 over-over new older old e = rw (drop-at older (drop (length older) old) (length new) (sym e), e)
 
-length-words : (v : ℕ) (r : List ℕ) → length r ≤ v → length (routeWords v r) ≡ v
+pub length-words : (v : ℕ) (r : List ℕ) → length r ≤ v → length (routeWords v r) ≡ v
 unfolding routeWords
 length-words v r h =
     length-append r (replicate (v - length r) routeEnd) ∙ omega (arith, length-replicate (v - length r) routeEnd)

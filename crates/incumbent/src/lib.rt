@@ -1,6 +1,7 @@
 // What a finished round does to the incumbent (the kept route): the trace of predecessors from the goal,
 // what it costs, and route memory.
 pub mod edges;
+pub mod kept;
 mod laying;
 mod tracing;
 
