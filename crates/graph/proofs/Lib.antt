@@ -3,6 +3,7 @@ pub mod Rows
 pub mod Sorted
 pub mod OneEdge
 pub mod Reading
+pub mod Checked
 pub mod Filling
 pub mod Plan
 pub mod Within

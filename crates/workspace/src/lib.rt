@@ -1,5 +1,6 @@
 // Work memory: where the graph and the vertices lie in lent words. Only this crate knows.
 pub mod layout;
+pub mod loader;
 pub mod rounds;
 mod words;
 
