@@ -14,8 +14,9 @@ use borrow.Author.Tests.{eq-eqb, ne-eqb}
 use Rattle.graph.specs.declared.Edge.{Edge}
 use Rattle.graph.specs.Lists.{over}
 use Rattle.search.specs.Walk.{Walk, here, along}
-use Rattle.search.specs.Job.{routeEnd}
-use Rattle.search.specs.Outcome.{routeWords}
+use Rattle.search.specs.Job.{Job, routeEnd}
+use Rattle.search.specs.Rounds.{State}
+use Rattle.search.specs.Outcome.{routeWords, routeAfter}
 use Rattle.incumbent.specs.Kept.{upToEnd}
 use Rattle.incumbent.proofs.Ended.{length-words}
 
@@ -79,13 +80,28 @@ unfolding Below
 walk-below edges v heads (here a) h = (h, tt)
 walk-below edges v heads (along e m w) h = (h, walk-below edges v heads w (heads e m))
 
+below-up : (v w : ℕ) (r : List ℕ) → v ≤ w → Below v r → Below w r
+unfolding Below
+below-up v w [] h b = tt
+below-up v w (x ∷ r) h b = (omega (arith, b .0), below-up v w r h (b .1))
+
 ends-there : (r : List ℕ) (k : ℕ) → Below routeEnd r → upToEnd (r ++ replicate k routeEnd) ≡ r
 unfolding Below upToEnd
 ends-there [] zero b = refl
 ends-there [] (suc k) b = end-here routeEnd (replicate k routeEnd) refl
 ends-there (x ∷ r) k b = not-here x (r ++ replicate k routeEnd) (λ e. omega (arith, b .0)) ∙ ap (λ (l : List ℕ). x ∷ l) (ends-there r k (b .1))
 
-pub route-back : (v : ℕ) (r old : List ℕ) → length r ≤ v → Below routeEnd r → upToEnd (take v (over (routeWords v r) old)) ≡ r
+route-back : (v : ℕ) (r old : List ℕ) → length r ≤ v → Below routeEnd r → upToEnd (take v (over (routeWords v r) old)) ≡ r
 unfolding over routeWords
 route-back v r old h b =
     ap upToEnd (take-at (routeWords v r) (drop (length (routeWords v r)) old) v (length-words v r h)) ∙ ends-there r (v - length r) b
+
+-- route memory after a search holds the incumbent, a walk over edges of at most V ≤ 4,294,967,295 vertices
+pub incumbent-length :
+    (job : Job) (s : State) (old w : List ℕ) → 0 < s .progress .rounds → length (s .incumbent) ≤ job .size → Below (job .size) (s .incumbent) →
+    job .size ≤ routeEnd → w ≡ routeAfter job s old → length (upToEnd (take (job .size) w)) ≡ length (s .incumbent)
+unfolding routeAfter
+incumbent-length job s old w h short b small e =
+    ap length
+    (ap (λ (l : List ℕ). upToEnd (take (job .size) l)) (rw (ne-eqb (s .progress .rounds) 0 (λ q. omega arith)) at e)
+    ∙ route-back (job .size) (s .incumbent) old short (below-up (job .size) routeEnd (s .incumbent) small b))
