@@ -3,8 +3,8 @@
 use mathlib.Core.Path.{_≡_, refl, sym, ap, _∙_}
 use mathlib.Core.Logic.{_≢_}
 use mathlib.Core.Bool.{Bool, true, false, cond, _||_}
-use mathlib.Core.List.{List, [], _∷_, _++_}
-use Prim.Native.Nat.{ℕ, suc, _+_, _-_, _≤_, _<_}
+use mathlib.Core.List.{List}
+use Prim.Native.Nat.{ℕ, suc, _-_, _≤_, _<_}
 use native.Mathlib.Omega.{arith}
 use lib.Dec.{eqb, ltb}
 use lib.ListN.{length, drop, replicate, length-append, length-replicate}
@@ -16,7 +16,7 @@ use Rattle.search.specs.declared.RouteCost.{RouteCost}
 use Rattle.search.specs.declared.RouteCost.the-variants.{Broken, Cost}
 use Rattle.search.specs.Walk.{routeCost}
 use Rattle.search.specs.Job.{Job, routeEnd}
-use Rattle.search.specs.Rounds.{State, ended, trace, traced, improves, costOr, endRound}
+use Rattle.search.specs.Rounds.{State, ended, traced, improves, costOr, endRound}
 use Rattle.search.specs.Outcome.{routeWords, routeAfter}
 use Rattle.search.proofs.Tools.{same-cases}
 use Rattle.workspace.specs.declared.Size.{Size}
