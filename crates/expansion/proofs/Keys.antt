@@ -43,7 +43,7 @@ module _ (n : ℕ) where
         vertex = λ j t e. let i : s ≡ t = cc in omega arith;
       }
 
-  pub within-better : (t : Bool) (k s : ℕ) (b : Best) → Within n b → k ≤ maxKey → s < n → Within n (better t k s b)
+  within-better : (t : Bool) (k s : ℕ) (b : Best) → Within n b → k ≤ maxKey → s < n → Within n (better t k s b)
   unfolding better
   within-better false k s b h p q = h
   within-better true k s Nobody h p q = within-found k s p q
@@ -52,6 +52,15 @@ module _ (n : ℕ) where
       go : (x : Bool) → Within n (cond x (Found k s) (Found j u))
       go true = within-found k s p q
       go false = h
+
+  -- one vertex considered
+  module _ (o : Bool) (k s : ℕ) (b : Best) (h : Within n b) where
+    pub offered-taken : (r : Best) → o ≡ true → k ≤ maxKey → s < n → r ≡ better true k s b → (r ≡ better o k s b) × Within n r
+    offered-taken r e p q f = (f ∙ ap (λ (t : Bool). better t k s b) (sym e), rw f (within-better true k s b h p q))
+
+    pub offered-left : o ≡ false → (b ≡ better o k s b) × Within n b
+    unfolding better
+    offered-left e = (rw e, h)
 
   due-by : (b : Best) (t : Step) → Within n b → ((m a : ℕ) → t ≡ Due m a → b ≡ Found m a) → DueWithin n t
   due-by b t h f = record { key = λ m a e. h .small .key m a (f m a e); vertex = λ m a e. h .vertex m a (f m a e) }
@@ -88,9 +97,9 @@ pub record Scanned (z : Size) (w hs : List ℕ) (i w1 s : ℕ) (b : Best) : Type
   pub fits : Within (z .vertices) b
 
 module _ (z : Size) (w hs : List ℕ) (i w1 : ℕ) where
-  pub scanned-none : Scanned z w hs i w1 0 Nobody
+  pub scanned-none : (b : Best) → b ≡ Nobody → Scanned z w hs i w1 0 b
   unfolding least
-  scanned-none = record { within = omega arith; rest = refl; fits = within-nobody (z .vertices) }
+  scanned-none b e = rw e record { within = omega arith; rest = refl; fits = within-nobody (z .vertices) }
 
   module _ (s : ℕ) (b : Best) (k : Scanned z w hs i w1 s b) where
     abbrev x : Vertex
@@ -104,11 +113,11 @@ module _ (z : Size) (w hs : List ℕ) (i w1 : ℕ) where
         let l : s < length (verticesOf z w) = omega (arith, length-verticesOf z w) in
         record { within = omega arith; rest = rw (e, add-one) (rw (drop-cons (verticesOf z w) s fresh l) at (k .rest)); fits = f }
 
-    pub scanned-all : z .vertices ≤ s → (b ≡ least i w1 hs (verticesOf z w)) × Within (z .vertices) b
+    pub scanned-all : (r : Best) → r ≡ b → z .vertices ≤ s → (r ≡ least i w1 hs (verticesOf z w)) × Within (z .vertices) r
     unfolding leastFrom
-    scanned-all h =
+    scanned-all r e h =
         let l : length (verticesOf z w) ≤ s = omega (arith, length-verticesOf z w) in
-        (rw (drop-of-length-le (verticesOf z w) l) at (k .rest), k .fits)
+        (e ∙ rw (drop-of-length-le (verticesOf z w) l) at (k .rest), rw e (k .fits))
 
 -- ---- sheets
 
