@@ -374,6 +374,22 @@ impl<'a> Comparison<'a> {
         None
     }
 
+    /// Prints how many cases were compared, and how often each refusal was
+    /// met by each kind of case.
+    pub fn report(&self, name: &str) {
+        println!("{name}: {} cases, {} known", self.cases, self.known);
+        for (kind, tally) in self.tally.iter().enumerate() {
+            let met: Vec<String> = (0..)
+                .zip(tally)
+                .filter(|&(_, &count)| count > 0)
+                .map(|(number, count): (u32, _)| format!("{number}: {count}"))
+                .collect();
+            if !met.is_empty() {
+                println!("  kind {kind}: {}", met.join(", "));
+            }
+        }
+    }
+
     /// Runs one case on both sides and panics if they differ.
     pub fn must_agree(&mut self, case: &Case, known: Option<Figures>) {
         if let Some(text) = self.differs(case, known) {

@@ -209,80 +209,60 @@ fn bad_form(random: &mut Random, value: u32) -> Vec<u8> {
 /// the damaged field (none for bytes left over).
 pub fn damage(random: &mut Random, plan: &Plan) -> (Vec<u8>, Figures, Option<Field>) {
     let (mut bytes, numbers) = plan.encode();
-    loop {
-        let index = random.index(numbers.len());
-        let number = numbers[index];
-        let end = number.offset + number.length;
-        let here = number.offset as u64;
-        let field = Some(number.field);
-        let with = |mut bytes: Vec<u8>, new: &[u8]| {
-            bytes.splice(number.offset..end, new.iter().copied());
-            bytes
-        };
-        let with_value = |bytes: Vec<u8>, value: u32| {
-            let mut new = Vec::new();
-            push_number(&mut new, value);
-            with(bytes, &new)
-        };
-        match random.below(8) {
-            0 => {
-                // The bytes end at or inside this number.
-                bytes.truncate(number.offset + random.index(number.length));
-                return (bytes, [1, here, 0, 0], field);
-            }
-            1 => {
-                let new = bad_form(random, number.value);
-                return (with(bytes, &new), [1, here, 0, 0], field);
-            }
-            2 => {
-                // Bytes left over.
-                let end = bytes.len() as u64;
-                for _ in 0..random.range(1, 4) {
-                    bytes.push(random.byte());
-                }
-                return (bytes, [7, end, 0, 0], None);
-            }
-            _ => {}
+    let index = random.index(numbers.len());
+    let number = numbers[index];
+    let end = number.offset + number.length;
+    let here = number.offset as u64;
+    let field = Some(number.field);
+    let with = |mut bytes: Vec<u8>, new: &[u8]| {
+        bytes.splice(number.offset..end, new.iter().copied());
+        bytes
+    };
+    let with_value = |bytes: Vec<u8>, value: u32| {
+        let mut new = Vec::new();
+        push_number(&mut new, value);
+        with(bytes, &new)
+    };
+    match random.below(8) {
+        0 => {
+            // The bytes end at or inside this number.
+            bytes.truncate(number.offset + random.index(number.length));
+            return (bytes, [1, here, 0, 0], field);
         }
-        let edge = index.wrapping_sub(2) / 3;
-        match number.field {
-            Field::Vertices => {
-                let value = if random.one_in(3) {
-                    0
-                } else {
-                    number_from(random, MOST_VERTICES + 1)
-                };
-                return (with_value(bytes, value), [2, here, 0, 0], field);
-            }
-            Field::Edges => {
-                let value = number_from(random, MOST_EDGES as u32 + 1);
-                return (with_value(bytes, value), [3, here, 0, 0], field);
-            }
-            Field::Tail => {
-                let before = plan.tails[edge] - number.value;
-                let value = number_from(random, plan.vertices - before);
-                return (with_value(bytes, value), [4, here, 0, 0], field);
-            }
-            Field::Head => {
-                let same_tail = edge > 0 && plan.tails[edge] == plan.tails[edge - 1];
-                if same_tail && random.one_in(2) {
-                    let last = plan.heads[edge - 1];
-                    let value = if random.one_in(2) {
-                        last
-                    } else {
-                        random.range32(0, last)
-                    };
-                    return (with_value(bytes, value), [6, here, 0, 0], field);
-                }
-                let value = number_from(random, plan.vertices);
-                return (with_value(bytes, value), [4, here, 0, 0], field);
-            }
-            Field::Cost => {
-                let value = number_from(random, MOST_COST + 1);
-                return (with_value(bytes, value), [5, here, 0, 0], field);
-            }
+        1 => {
+            let new = bad_form(random, number.value);
+            return (with(bytes, &new), [1, here, 0, 0], field);
         }
+        2 => {
+            // Bytes left over.
+            let end = bytes.len() as u64;
+            for _ in 0..random.range(1, 4) {
+                bytes.push(random.byte());
+            }
+            return (bytes, [7, end, 0, 0], None);
+        }
+        _ => {}
     }
+    let edge = index.wrapping_sub(2) / 3;
+    let (refusal, value) = match number.field {
+        Field::Vertices if random.one_in(3) => (2, 0),
+        Field::Vertices => (2, number_from(random, MOST_VERTICES + 1)),
+        Field::Edges => (3, number_from(random, MOST_EDGES as u32 + 1)),
+        Field::Tail => {
+            let before = plan.tails[edge] - number.value;
+            (4, number_from(random, plan.vertices - before))
+        }
+        Field::Head => {
+            let same_tail = edge > 0 && plan.tails[edge] == plan.tails[edge - 1];
+            match random.below(4) {
+                0 if same_tail => (6, plan.heads[edge - 1]),
+                1 if same_tail => (6, random.range32(0, plan.heads[edge - 1])),
+                _ => (4, number_from(random, plan.vertices)),
+            }
+        }
+        Field::Cost => (5, number_from(random, MOST_COST + 1)),
+    };
+    (with_value(bytes, value), [refusal, here, 0, 0], field)
 }
 
 /// Damages the lists of a plan in one edge: the refusal that the writer must
@@ -377,7 +357,7 @@ pub fn numbers(seed: u64, count: usize, sink: Sink) {
         }
         let at = match random.below(16) {
             0 => usize::MAX - random.index(6),
-            1 => random.next() as usize,
+            1 => random.draw() as usize,
             _ => random.index(bytes.len() + 3),
         };
         let outside = at >= bytes.len();
@@ -412,7 +392,7 @@ pub fn written_numbers(seed: u64, count: usize, sink: Sink) {
         let room = random.index(7);
         let at = match random.below(16) {
             0 => usize::MAX - random.index(6),
-            1 => random.next() as usize,
+            1 => random.draw() as usize,
             _ => random.index(room + 3),
         };
         let value = match random.below(3) {

@@ -3,8 +3,11 @@
 //! under test with it.
 
 pub mod compare;
+pub mod dijkstra;
+pub mod events;
 pub mod ffi;
 pub mod generate;
+pub mod jobs;
 pub mod planner;
 pub mod random;
 pub mod reference;

@@ -67,6 +67,79 @@ pub enum Event {
     NoRoute { round: u32, turns: u32, held: u32 },
 }
 
+/// A planner that is wrong in one way, to show that a comparison finds it.
+/// The first ones are the paper's shortcuts.
+#[derive(Clone, Copy, Debug, PartialEq, Eq)]
+pub enum Fault {
+    /// g(goal) is stated as the cost.
+    CostOfGoal,
+    /// A vertex with the anchor mark becomes open again in its round.
+    OpenAgain,
+    /// Held vertices stay held in the next round.
+    Forgotten,
+    /// A turn without a vertex for the guide ends the search.
+    NothingExpanded,
+    /// The route of the last finished round is kept.
+    LastKept,
+    /// A later route of equal cost is kept.
+    EqualKept,
+    /// Equal keys: the highest vertex.
+    HighestVertex,
+    /// The guide keeps its turn after one that the anchor filled.
+    GuideStays,
+    /// A round goes on with the guide after the last one.
+    GuideGoesOn,
+    /// Guide marks stay in the next round.
+    GuideMarksStay,
+    /// Anchor marks stay in the next round.
+    AnchorMarksStay,
+    /// A guide's key must be strictly below the bound.
+    GuideStrict,
+    /// g(goal) must be strictly below the bound.
+    FinishStrict,
+    /// W1 in place of W2 where a round finishes.
+    FinishByW1,
+    /// The budget is looked at before the round is found finished.
+    BudgetFirst,
+    /// A head not expanded yet takes an equal cost.
+    EqualTaken,
+    /// Guides take vertices with the guide mark again.
+    GuideMarkIgnored,
+    /// Costs when last expanded go at a round's beginning.
+    ExpandedForgotten,
+    /// A round does not begin where no turn is left.
+    NoBegin,
+    /// W1·W2 of the round that was cut.
+    BoundOfCutRound,
+    /// Each round's turns are counted anew against the budget.
+    BudgetOfRound,
+}
+
+/// All faults.
+pub const FAULTS: [Fault; 21] = [
+    Fault::CostOfGoal,
+    Fault::OpenAgain,
+    Fault::Forgotten,
+    Fault::NothingExpanded,
+    Fault::LastKept,
+    Fault::EqualKept,
+    Fault::HighestVertex,
+    Fault::GuideStays,
+    Fault::GuideGoesOn,
+    Fault::GuideMarksStay,
+    Fault::AnchorMarksStay,
+    Fault::GuideStrict,
+    Fault::FinishStrict,
+    Fault::FinishByW1,
+    Fault::BudgetFirst,
+    Fault::EqualTaken,
+    Fault::GuideMarkIgnored,
+    Fault::ExpandedForgotten,
+    Fault::NoBegin,
+    Fault::BoundOfCutRound,
+    Fault::BudgetOfRound,
+];
+
 /// A vertex in the search: the paper's cost g, cost when last expanded,
 /// predecessor and marks.
 #[derive(Clone, Copy)]
@@ -175,9 +248,18 @@ struct Search<'a> {
     kept: Option<(u32, Vec<u32>)>,
     finished: u32,
     bound: u32,
+    /// Turns before the round in hand, and the guide that a faulty planner
+    /// goes on with.
+    turns_before: u32,
+    next_guide: usize,
+    fault: Option<Fault>,
 }
 
 impl Search<'_> {
+    fn has(&self, fault: Fault) -> bool {
+        self.fault == Some(fault)
+    }
+
     /// key(s,i) = 100·g(s) + W1·hi(s).
     fn key(&self, vertex: usize, table: usize, factors: Factors) -> u64 {
         100 * u64::from(self.vertices[vertex].g)
@@ -195,20 +277,25 @@ impl Search<'_> {
         (0..self.vertices.len())
             .filter(|&vertex| self.vertices[vertex].open && allowed(&self.vertices[vertex]))
             .map(|vertex| (self.key(vertex, table, factors), vertex))
-            .min()
+            .min_by_key(|&(key, vertex)| {
+                let highest = self.has(Fault::HighestVertex);
+                (key, if highest { usize::MAX - vertex } else { vertex })
+            })
     }
 
     fn expand(&mut self, vertex: usize) {
         let g = self.vertices[vertex].g;
+        let (equal, open_again) = (self.has(Fault::EqualTaken), self.has(Fault::OpenAgain));
         self.vertices[vertex].open = false;
         self.vertices[vertex].expanded_at = g;
         for edge in self.graph.edges_of(vertex) {
             let cost = u64::from(g) + u64::from(self.graph.costs[edge]);
             let head = &mut self.vertices[self.graph.heads[edge] as usize];
-            if cost < u64::from(head.g) {
+            let same = equal && cost == u64::from(head.g) && head.expanded_at == NONE;
+            if cost < u64::from(head.g) || same {
                 head.g = cost as u32;
                 head.predecessor = vertex as u32;
-                if head.anchor_mark {
+                if head.anchor_mark && !open_again {
                     head.held = true;
                 } else {
                     head.open = true;
@@ -237,12 +324,27 @@ impl Search<'_> {
     }
 
     fn begin_round(&mut self) {
+        let fault = self.fault;
         for vertex in &mut self.vertices {
-            vertex.open |= vertex.held;
-            vertex.held = false;
-            vertex.guide_mark = false;
-            vertex.anchor_mark = false;
+            if fault != Some(Fault::Forgotten) {
+                vertex.open |= vertex.held;
+                vertex.held = false;
+            }
+            vertex.guide_mark &= fault == Some(Fault::GuideMarksStay);
+            vertex.anchor_mark &= fault == Some(Fault::AnchorMarksStay);
+            if fault == Some(Fault::ExpandedForgotten) {
+                vertex.expanded_at = NONE;
+            }
         }
+    }
+
+    /// Whether step 2 ends the search.
+    fn spent(&self) -> bool {
+        let mut turns = self.turns.len() as u32;
+        if self.has(Fault::BudgetOfRound) {
+            turns -= self.turns_before;
+        }
+        turns == self.budget
     }
 
     /// One round; `None` if it is finished.
@@ -254,20 +356,31 @@ impl Search<'_> {
     ) -> Option<End> {
         let guides = self.tables.len() - 1;
         let mut guide = 1;
+        if self.has(Fault::GuideGoesOn) {
+            guide = self.next_guide;
+        }
         loop {
-            // Step 1.
             let turns = self.turns.len() as u32;
+            if self.has(Fault::BudgetFirst) && self.spent() {
+                return Some(End::Spent);
+            }
+            // Step 1.
             let Some((m, anchor_choice)) = self.least(0, factors, |_| true) else {
                 let held = self.vertices.iter().filter(|vertex| vertex.held).count() as u32;
                 observe(Event::NoRoute { round, turns, held });
                 return Some(End::NoRoute);
             };
             let goal_cost = self.vertices[self.goal].g;
-            if goal_cost != NONE && 10_000 * u64::from(goal_cost) <= factors.w2 * m {
+            let factor = match self.fault {
+                Some(Fault::FinishByW1) => factors.w1,
+                _ => factors.w2,
+            };
+            let least = 10_000 * u64::from(goal_cost) + u64::from(self.has(Fault::FinishStrict));
+            if goal_cost != NONE && least <= factor * m {
                 return None;
             }
             // Step 2.
-            if turns == self.budget {
+            if self.spent() {
                 observe(Event::Cut { round, turns });
                 return Some(End::Spent);
             }
@@ -275,9 +388,14 @@ impl Search<'_> {
             let mut choice = None;
             let mut no_line = false;
             if guides > 0 {
-                let line = self.least(guide, factors, |vertex| !vertex.guide_mark);
+                let again = self.has(Fault::GuideMarkIgnored);
+                let line = self.least(guide, factors, |vertex| !vertex.guide_mark || again);
                 no_line = line.is_none();
-                choice = line.filter(|&(key, _)| 100 * key <= factors.w2 * m);
+                if no_line && self.has(Fault::NothingExpanded) {
+                    return Some(End::NoRoute);
+                }
+                let strict = u64::from(self.has(Fault::GuideStrict));
+                choice = line.filter(|&(key, _)| 100 * key + strict <= factors.w2 * m);
             }
             let (table, vertex) = match choice {
                 Some((_, vertex)) => {
@@ -299,7 +417,10 @@ impl Search<'_> {
                 no_line,
             });
             self.expand(vertex);
-            guide = if guide >= guides { 1 } else { guide + 1 };
+            if table > 0 || !self.has(Fault::GuideStays) {
+                guide = if guide >= guides { 1 } else { guide + 1 };
+            }
+            self.next_guide = guide;
         }
     }
 
@@ -310,14 +431,25 @@ impl Search<'_> {
                 w1: pair[0].into(),
                 w2: pair[1].into(),
             };
-            self.begin_round();
+            self.turns_before = self.turns.len() as u32;
+            if !(self.has(Fault::NoBegin) && self.spent()) {
+                self.begin_round();
+            }
             observe(Event::Begin { round });
             match self.round(round, factors, observe) {
                 None => {}
-                Some(End::Spent) if self.finished > 0 => return End::Route,
+                Some(_) if self.finished > 0 => {
+                    if self.has(Fault::BoundOfCutRound) {
+                        self.bound = pair[0] * pair[1];
+                    }
+                    return End::Route;
+                }
                 Some(end) => return end,
             }
-            let (traced_cost, traced) = self.trace();
+            let (mut traced_cost, traced) = self.trace();
+            if self.has(Fault::CostOfGoal) {
+                traced_cost = self.vertices[self.goal].g;
+            }
             observe(Event::Finish {
                 round,
                 turns: self.turns.len() as u32,
@@ -326,11 +458,13 @@ impl Search<'_> {
                 traced_cost,
                 kept: self.kept.as_ref().map(|(cost, _)| *cost),
             });
-            if self
-                .kept
-                .as_ref()
-                .map_or(true, |(cost, _)| traced_cost < *cost)
-            {
+            let fault = self.fault;
+            let better = |kept: u32| {
+                traced_cost < kept
+                    || fault == Some(Fault::LastKept)
+                    || fault == Some(Fault::EqualKept) && traced_cost == kept
+            };
+            if self.kept.as_ref().is_none_or(|(cost, _)| better(*cost)) {
                 self.kept = Some((traced_cost, traced));
             }
             self.finished += 1;
@@ -342,7 +476,7 @@ impl Search<'_> {
 
 fn bad_schedule(schedule: &[u32]) -> bool {
     schedule.len() > 32
-        || schedule.len() % 2 != 0
+        || schedule.len() % 2 == 1
         || schedule
             .iter()
             .any(|factor| !(100..=10_000).contains(factor))
@@ -379,11 +513,13 @@ pub fn plan(
         route,
         log,
         work,
+        None,
         &mut |_| (),
     )
 }
 
-/// One planner call whose events are handed to `observe`.
+/// One planner call whose events are handed to `observe`, with a fault if
+/// one is wanted.
 #[allow(clippy::too_many_arguments)]
 pub fn plan_observed(
     bytes: &[u8],
@@ -397,6 +533,7 @@ pub fn plan_observed(
     route: &mut [u32],
     log: &mut [u32],
     work: &mut [u32],
+    fault: Option<Fault>,
     observe: &mut dyn FnMut(Event),
 ) -> Answer {
     let refused = |number, position| Answer::Refused { number, position };
@@ -448,6 +585,9 @@ pub fn plan_observed(
         kept: None,
         finished: 0,
         bound: 0,
+        turns_before: 0,
+        next_guide: 1,
+        fault,
     };
     search.vertices[start as usize].g = 0;
     search.vertices[start as usize].open = true;

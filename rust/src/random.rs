@@ -10,7 +10,7 @@ impl Random {
         Random { state: seed }
     }
 
-    pub fn next(&mut self) -> u64 {
+    pub fn draw(&mut self) -> u64 {
         self.state = self.state.wrapping_add(0x9E37_79B9_7F4A_7C15);
         let mut z = self.state;
         z = (z ^ (z >> 30)).wrapping_mul(0xBF58_476D_1CE4_E5B9);
@@ -21,7 +21,7 @@ impl Random {
     /// A number below `end`, which is not 0.
     pub fn below(&mut self, end: u64) -> u64 {
         assert!(end > 0, "no number is below 0");
-        ((u128::from(self.next()) * u128::from(end)) >> 64) as u64
+        ((u128::from(self.draw()) * u128::from(end)) >> 64) as u64
     }
 
     /// A number from `first` to `last`, both included.
@@ -29,7 +29,7 @@ impl Random {
         assert!(first <= last, "an empty range");
         match (last - first).checked_add(1) {
             Some(count) => first + self.below(count),
-            None => self.next(),
+            None => self.draw(),
         }
     }
 
@@ -49,7 +49,7 @@ impl Random {
     }
 
     pub fn byte(&mut self) -> u8 {
-        (self.next() >> 56) as u8
+        (self.draw() >> 56) as u8
     }
 
     /// A number of up to `bits` bits with small numbers as likely as large ones.
@@ -58,7 +58,7 @@ impl Random {
         if width == 0 {
             0
         } else {
-            self.next() >> (64 - width)
+            self.draw() >> (64 - width)
         }
     }
 
@@ -85,7 +85,7 @@ mod tests {
     #[test]
     fn one_seed_gives_one_sequence() {
         let (mut left, mut right) = (Random::new(77), Random::new(77));
-        assert!((0..100).all(|_| left.next() == right.next()));
-        assert_ne!(Random::new(1).next(), Random::new(2).next());
+        assert!((0..100).all(|_| left.draw() == right.draw()));
+        assert_ne!(Random::new(1).draw(), Random::new(2).draw());
     }
 }

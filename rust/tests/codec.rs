@@ -35,6 +35,7 @@ fn numbers_are_read_alike() {
     generate::numbers(11, 100_000, &mut |case, known| {
         comparison.must_agree(&case, known)
     });
+    comparison.report("numbers_are_read_alike");
     met(&comparison, READ_PLAN_NUMBER, &[(0, 60_000), (1, 60_000)]);
     met(&comparison, READ_JOB_NUMBER, &[(0, 60_000), (1, 60_000)]);
     assert!(comparison.cases >= 330_000 && comparison.known >= 10_000);
@@ -46,6 +47,7 @@ fn numbers_are_written_alike() {
     generate::written_numbers(12, 60_000, &mut |case, known| {
         comparison.must_agree(&case, known)
     });
+    comparison.report("numbers_are_written_alike");
     met(
         &comparison,
         WRITE_PLAN_NUMBER,
@@ -61,6 +63,7 @@ fn valid_plans_are_read_and_written_alike() {
         comparison.must_agree(&case, known)
     });
     generate::large_plans(30, &mut |case, known| comparison.must_agree(&case, known));
+    comparison.report("valid_plans_are_read_and_written_alike");
     met(&comparison, CHECK_PLAN, &[(0, 5_000)]);
     met(&comparison, READ_PLAN, &[(0, 10_000), (11, 5_000)]);
     met(&comparison, WRITE_PLAN, &[(0, 10_000), (11, 10_000)]);
@@ -81,6 +84,7 @@ fn damaged_plans_are_refused_alike() {
         },
         &mut |case, known| comparison.must_agree(&case, known),
     );
+    comparison.report("damaged_plans_are_refused_alike");
     for class in [
         (1, Some(Field::Vertices)),
         (1, Some(Field::Edges)),
@@ -114,6 +118,7 @@ fn every_beginning_of_a_plan_is_refused_alike() {
     generate::truncations(15, 1_500, &mut |case, known| {
         comparison.must_agree(&case, known)
     });
+    comparison.report("every_beginning_of_a_plan_is_refused_alike");
     met(&comparison, CHECK_PLAN, &[(1, 15_000)]);
     met(&comparison, READ_PLAN, &[(1, 15_000)]);
     assert_eq!(comparison.cases, comparison.known);
@@ -128,6 +133,7 @@ fn random_bytes_are_read_alike() {
     generate::changed_bytes(17, 60_000, &mut |case, known| {
         comparison.must_agree(&case, known)
     });
+    comparison.report("random_bytes_are_read_alike");
     let each: Vec<(usize, u64)> = (0..=7)
         .map(|number| (number, if number == 3 { 10 } else { 300 }))
         .collect();
@@ -147,6 +153,7 @@ fn lists_are_written_alike() {
     generate::random_lists(19, 60_000, &mut |case, known| {
         comparison.must_agree(&case, known)
     });
+    comparison.report("lists_are_written_alike");
     met(
         &comparison,
         WRITE_PLAN,

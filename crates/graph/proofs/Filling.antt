@@ -18,7 +18,7 @@ use Rattle.graph.specs.declared.Header.{Header}
 use Rattle.graph.specs.declared.Header.the-variants.{Counts}
 use Rattle.graph.specs.Plan.{Decoded, accepted, refused, firstAt, nextEdge, before, onward, edgesFrom, header, afterHeader, decode, sizes}
 use Rattle.graph.specs.Lists.{tailOf, headOf, costOf, over, edgesIn, roomFor, readAs, readAnswer, listAfter}
-use Rattle.graph.specs.Steps.{storedAt, cursorPast}
+use Rattle.graph.specs.Steps.{Stepped, storedAt, cursorPast}
 use borrow.Author.Tests.{leb-true}
 use Rattle.graph.proofs.Tests.{and-true}
 use Rattle.graph.proofs.Plan.{First, first-of, Accepts, accepts}
@@ -43,7 +43,7 @@ empty [] h = refl
 empty (e ∷ es) h = absurd (omega arith)
 
 -- stored from the front on is laid over
-sets-front : (new old : List ℕ) → length new ≤ length old → sets old 0 new ≡ over new old
+pub sets-front : (new old : List ℕ) → length new ≤ length old → sets old 0 new ≡ over new old
 unfolding over
 sets-front new old room =
     let z : 0 + length new ≡ length new = omega arith in
@@ -81,6 +81,9 @@ module _ (v m : ℕ) (s : List ℕ) (at : ℕ) where
 
     pub first : First v (m - suc i) s c v all
     first = first-of v (m - suc i) s c v all accepts-all
+
+    pub stepped : Stepped v s c
+    stepped = record { edge = first .edge; after = first .after; is = first .is }
 
     pub cursor-next : cursorPast c (nextEdge v s c) ≡ first .after
     unfolding cursorPast

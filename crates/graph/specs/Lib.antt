@@ -4,3 +4,4 @@ pub mod Plan
 pub mod Lists
 pub mod OneForm
 pub mod Steps
+pub mod Writing

@@ -1,6 +1,7 @@
 -- What the private functions of reading and writing give: for their contracts alone, nothing that a reader must believe.
 use Prim.Native.Nat.{ℕ}
 use mathlib.Core.List.{List}
+use mathlib.Core.Path.{_≡_}
 use lib.ListN.{set}
 use Rattle.graph.specs.declared.Edge.{Edge}
 use Rattle.graph.specs.declared.Cursor.{Cursor}
@@ -12,6 +13,7 @@ use Rattle.graph.specs.declared.Header.{Header}
 use Rattle.graph.specs.declared.Header.the-variants.{Counts, HeaderFault}
 use Rattle.graph.specs.declared.PlanRead.{PlanRead}
 use Rattle.graph.specs.declared.PlanRead.the-variants.{Refused}
+use Rattle.graph.specs.Plan.{nextEdge}
 
 -- a refusal carried from one answer to the next; 0 at 0 stands where there is none
 abbrev pub cursorRefusal : Taken → EdgeRead
@@ -29,6 +31,12 @@ edgeRefusal (Next e c) = Refused 0 0
 abbrev pub planRefusal : Header → PlanRead
 planRefusal (HeaderFault n p) = Refused n p
 planRefusal (Counts v m at) = Refused 0 0
+
+-- the step from a cursor gives an edge, as in a plan that was checked
+pub record Stepped (v : ℕ) (s : List ℕ) (c : Cursor) : Type 0 where
+  pub edge : Edge
+  pub after : Cursor
+  pub is : nextEdge v s c ≡ Next edge after
 
 -- one edge stored at i in one list, and the cursor past it
 unfoldable pub storedAt : (Edge → ℕ) → ℕ → List ℕ → EdgeRead → List ℕ

@@ -3,6 +3,7 @@ pub mod check;
 pub mod edges;
 mod number;
 pub mod read;
+pub mod write;
 
 // The limits of a plan: vertices (places), edges (lanes), and the dearest edge.
 pub const MAX_VERTICES: u32 = 4096;

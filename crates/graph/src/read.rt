@@ -8,7 +8,7 @@ ghost use lib.Dec.{leb};
 ghost use Rattle.graph.specs.declared.PlanRead.the-variants.{Sizes};
 ghost use Rattle.graph.specs.Plan.{firstAt, nextEdge, edgesFrom, sizes};
 ghost use Rattle.graph.specs.Lists.{tailOf, headOf, costOf, over, roomFor, edgesIn, readAnswer, listAfter};
-ghost use Rattle.graph.specs.Steps.{storedAt, cursorPast};
+ghost use Rattle.graph.specs.Steps.{Stepped, storedAt, cursorPast};
 use crate::Cursor;
 use crate::EdgeRead;
 use crate::Header;
@@ -42,12 +42,13 @@ fn store(
     requires { ⌜ i < length (now tails) ⌝ }
     requires { ⌜ i < length (now heads) ⌝ }
     requires { ⌜ i < length (now costs) ⌝ }
+    requires { ⌜ Stepped vertices (now bytes) cursor ⌝ }
     ensures { λ r. ⌜ r ≡ cursorPast cursor (nextEdge vertices (now (bytes .entry)) cursor) ⌝ }
     ensures { λ r. ⌜ now (tails .exit) ≡ storedAt tailOf i (now (tails .entry)) (nextEdge vertices (now (bytes .entry)) cursor) ⌝ }
     ensures { λ r. ⌜ now (heads .exit) ≡ storedAt headOf i (now (heads .entry)) (nextEdge vertices (now (bytes .entry)) cursor) ⌝ }
     ensures { λ r. ⌜ now (costs .exit) ≡ storedAt costOf i (now (costs .entry)) (nextEdge vertices (now (bytes .entry)) cursor) ⌝ }
 {
-    let EdgeRead::Next(edge, next) = cursor.step(bytes, vertices) else {
+    let EdgeRead::Next(edge, next) = cursor.step_checked(bytes, vertices) else {
         return cursor;
     };
     tails[i] = edge.tail;

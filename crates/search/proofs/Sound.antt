@@ -1,8 +1,7 @@
 -- What holds of every vertex between turns: g ≤ v; open or inconsistent exactly where g < v; g of a head at most v of the tail and the cost.
 -- Assumes nothing.
-use mathlib.Core.Path.{_≡_, refl, sym, ap, _∙_}
-use mathlib.Core.Logic.{_≢_}
-use mathlib.Core.Bool.{Bool, true, false, not, _||_}
+use mathlib.Core.Path.{_≡_, ap}
+use mathlib.Core.Bool.{not}
 use mathlib.Core.List.{List, List·Memᴰ}
 use Prim.Native.Nat.{ℕ, _+_, _≤_, _<_}
 use native.Mathlib.Nat.{le-refl, le-of-lt}
@@ -19,7 +18,7 @@ use Rattle.search.proofs.Moves.{Moved, same, down, After, self, other, 
 
 -- ---- one vertex
 
-pub record Tidy (p : Vertex) : Type 0 where
+pub record Proper (p : Vertex) : Type 0 where
   pub le : p .g ≤ p .v
   pub top : p .v ≤ unreached
   pub waits : T (p .opened) → (p .g < p .v) × T (not (p .anchor))
@@ -28,27 +27,27 @@ pub record Tidy (p : Vertex) : Type 0 where
   pub keeps : p .g < p .v → T (p .anchor) → T (p .incons)
   pub noted : T (p .anchor) → p .v < unreached
 
-pub tidy-fresh : Tidy fresh
+pub proper-fresh : Proper fresh
 unfolding fresh
-tidy-fresh =
+proper-fresh =
     record
     { le = le-refl _; top = le-refl _; waits = λ t. absurd t; holds = λ t. absurd t; lists = λ k t. absurd (omega arith); keeps = λ k t. absurd t; noted = λ t. absurd t }
 
-pub tidy-origin : Tidy origin
+pub proper-origin : Proper origin
 unfolding origin unreached
-tidy-origin =
+proper-origin =
     record
     { le = omega arith; top = le-refl _; waits = λ t. (omega arith, tt); holds = λ t. absurd t; lists = λ k t. tt; keeps = λ k t. absurd t; noted = λ t. absurd t }
 
-tidy-lowered : (n s : ℕ) (p : Vertex) → Tidy p → n < p .g → Tidy (lowered n s p)
+proper-lowered : (n s : ℕ) (p : Vertex) → Proper p → n < p .g → Proper (lowered n s p)
 unfolding lowered
-tidy-lowered n s p y k =
+proper-lowered n s p y k =
     record
     { le = omega arith; top = y .top; waits = λ t. (omega arith, t); holds = λ t. (omega arith, t); lists = λ h t. t; keeps = λ h t. t; noted = y .noted }
 
-tidy-marked : (i : ℕ) (p : Vertex) → Tidy p → T (p .opened) → Tidy (marked i p)
+proper-marked : (i : ℕ) (p : Vertex) → Proper p → T (p .opened) → Proper (marked i p)
 unfolding marked
-tidy-marked i p y w =
+proper-marked i p y w =
     record {
       le = le-refl _;
       top = omega arith;
@@ -59,9 +58,9 @@ tidy-marked i p y w =
       noted = λ t. omega (arith, y .waits w .0);
     }
 
-pub tidy-reopened : (p : Vertex) → Tidy p → Tidy (reopened p)
+pub proper-reopened : (p : Vertex) → Proper p → Proper (reopened p)
 unfolding reopened
-tidy-reopened p y =
+proper-reopened p y =
     record {
       le = y .le;
       top = y .top;
@@ -74,14 +73,14 @@ tidy-reopened p y =
       noted = λ t. absurd t;
     }
 
-tidy-moved : {edges : List Edge} {s c u : ℕ} {p q : Vertex} → Moved edges s c u p q → Tidy p → Tidy q
-tidy-moved (same e) y = rw e y
-tidy-moved {s} {c} {p} (down l m t h k f) y = rw f (tidy-lowered (c + l .cost) s p y k)
+proper-moved : {edges : List Edge} {s c u : ℕ} {p q : Vertex} → Moved edges s c u p q → Proper p → Proper q
+proper-moved (same e) y = rw e y
+proper-moved {s} {c} {p} (down l m t h k f) y = rw f (proper-lowered (c + l .cost) s p y k)
 
 -- ---- all vertices
 
 pub record Sound (edges : List Edge) (start : ℕ) (st : List Vertex) : Type 0 where
-  pub tidy : (u : ℕ) → Tidy (at st u)
+  pub proper : (u : ℕ) → Proper (at st u)
   pub home : at st start .g ≡ 0
   pub tight : (l : Edge) → List·Memᴰ l edges → at st (l .head) .g ≤ at st (l .tail) .v + l .cost
 
@@ -107,9 +106,9 @@ after-g (other n m) = moved-g m
 
 module _ (edges : List Edge) (start i s : ℕ) (st : List Vertex) (fit : (l : Edge) → List·Memᴰ l edges → l .head < length st)
     (hs : s < length st) (w : T (at st s .opened)) (y : Sound edges start st) where
-  tidy-after : (u : ℕ) (q : Vertex) → After edges i s u st q → Tidy q
-  tidy-after u q (self e f) = rw f (tidy-marked i (at st s) (y .tidy s) w)
-  tidy-after u q (other n m) = tidy-moved m (y .tidy u)
+  proper-after : (u : ℕ) (q : Vertex) → After edges i s u st q → Proper q
+  proper-after u q (self e f) = rw f (proper-marked i (at st s) (y .proper s) w)
+  proper-after u q (other n m) = proper-moved m (y .proper u)
 
   tight-after : (l : Edge) → List·Memᴰ l edges → (q : Vertex) → After edges i s (l .tail) st q
       → at (expand edges i s st) (l .head) .g ≤ q .v + l .cost
@@ -120,7 +119,7 @@ module _ (edges : List Edge) (start i s : ℕ) (st : List Vertex) (fit : (l : Ed
   pub sound-expand : Sound edges start (expand edges i s st)
   sound-expand =
       record {
-        tidy = λ u. tidy-after u _ (after edges i s st u fit hs);
+        proper = λ u. proper-after u _ (after edges i s st u fit hs);
         home = omega (arith, after-g (after edges i s st start fit hs), y .home);
         tight = λ l m. tight-after l m _ (after edges i s st (l .tail) fit hs);
       }

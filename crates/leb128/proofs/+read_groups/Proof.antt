@@ -24,7 +24,6 @@ abbrev read-groups-below : ℕ → In 1 read-groups-kinds.ps
 read-groups-below t =
     and 1 read-groups-kinds.ps (falls 1 read-groups-kinds.ps _<_ μ-read-groups t) read-groups.Pre
 
--- src/lib.rt:67:9
 read-groups-returns : (t : ℕ) → read-groups-lts.Need-returns (
   read-groups-below t,
   read-groups.Post,
@@ -34,21 +33,18 @@ read-groups-returns t c =
     let s = a .bytes .now in
     answer-lost (a .groups) s (a .at) (lost-none (a .groups) s (a .at) (c .if1 .taken))
 
--- src/lib.rt:70:9
 read-groups-returns-2 : (t : ℕ) → read-groups-lts.Need-returns-2 (
   read-groups-below t,
   read-groups.Post,
 ) (read-groups-at t) read-groups.Post
 read-groups-returns-2 t c = answer-lost _ _ _ (lost-end _ _ _ (c .if2 .taken))
 
--- src/lib.rt:72:13
 read-groups-shared-slice-read-a : (t : ℕ) → read-groups-lts.Need-shared-slice-read-a (
   read-groups-below t,
   read-groups.Post,
 ) (read-groups-at t) read-groups.Post
 read-groups-shared-slice-read-a t c = search needs
 
--- src/lib.rt:72:13
 read-groups-cast-a :
     (t : ℕ) →
     read-groups-lts.Need-cast-a
@@ -57,21 +53,18 @@ read-groups-cast-a :
     read-groups.Post
 read-groups-cast-a t c = omega (arith, c .shared-slice-known2 .given (c .before .before .before .before .args .at))
 
--- src/lib.rt:74:34
 read-groups-cast-t12 : (t : ℕ) → read-groups-lts.Need-cast-t12 (
   read-groups-below t,
   read-groups.Post,
 ) (read-groups-at t) read-groups.Post
 read-groups-cast-t12 t c = search needs
 
--- src/lib.rt:74:44
 read-groups-add-t13 : (t : ℕ) → read-groups-lts.Need-add-t13 (
   read-groups-below t,
   read-groups.Post,
 ) (read-groups-at t) read-groups.Post
 read-groups-add-t13 t c = search needs
 
--- src/lib.rt:74:9
 read-groups-returns-3 : (t : ℕ) → read-groups-lts.Need-returns-3 (
   read-groups-below t,
   read-groups.Post,
@@ -82,42 +75,36 @@ read-groups-returns-3 t c =
     let f = found-last (a .groups - 1) s (a .at) (c .before .before .if2 .left) (c .if3 .taken) in
     answer-value (suc (a .groups - 1)) s (a .at) _ 1 f (omega arith) ∙ ap (λ (k : ℕ). read k s (a .at)) (omega (arith, (c .before .before .before .if1 .left)))
 
--- src/lib.rt:76:60
 read-groups-add-read-groups : (t : ℕ) → read-groups-lts.Need-add-read-groups (
   read-groups-below t,
   read-groups.Post,
 ) (read-groups-at t) read-groups.Post
 read-groups-add-read-groups t c = search needs
 
--- src/lib.rt:76:68
 read-groups-sub-read-groups : (t : ℕ) → read-groups-lts.Need-sub-read-groups (
   read-groups-below t,
   read-groups.Post,
 ) (read-groups-at t) read-groups.Post
 read-groups-sub-read-groups t c = search needs
 
--- src/lib.rt:76:41
 read-groups-read-groups-requires : (t : ℕ) → read-groups-lts.Need-read-groups-requires (
   read-groups-below t,
   read-groups.Post,
 ) (read-groups-at t) read-groups.Post
 read-groups-read-groups-requires t c κs = search needs
 
--- src/lib.rt:76:27
 read-groups-enum-known-rest : (t : ℕ) → read-groups-lts.Need-enum-known-rest (
   read-groups-below t,
   read-groups.Post,
 ) (read-groups-at t) read-groups.Post
 read-groups-enum-known-rest t c = search needs
 
--- src/lib.rt:77:9
 read-groups-enum-told : (t : ℕ) → read-groups-lts.Need-enum-told (
   read-groups-below t,
   read-groups.Post,
 ) (read-groups-at t) read-groups.Post
 read-groups-enum-told t c = search needs
 
--- src/lib.rt:77:9
 read-groups-returns-4 : (t : ℕ) → read-groups-lts.Need-returns-4 (
   read-groups-below t,
   read-groups.Post,
@@ -129,7 +116,6 @@ read-groups-returns-4 t c =
     let grow : suc (a .groups - 1) ≡ a .groups = omega (arith, (c .before .before .before .before .before .before .if1 .left)) in
     rest-refused (a .groups - 1) (a .groups) grow s (a .at) (a .at + 1) (omega arith) (c .before .before .before .before .before .if2 .left) (c .before .before .before .if3 .left) _ e
 
--- src/lib.rt:80:9
 read-groups-returns-5 : (t : ℕ) → read-groups-lts.Need-returns-5 (
   read-groups-below t,
   read-groups.Post,
@@ -141,35 +127,30 @@ read-groups-returns-5 t c =
     let grow : suc (a .groups - 1) ≡ a .groups = omega (arith, (c .before .before .before .before .before .before .before .before .if1 .left)) in
     rest-zero (a .groups - 1) (a .groups) grow s (a .at) (a .at + 1) (omega arith) (c .before .before .before .before .before .before .before .if2 .left) (c .before .before .before .before .before .if3 .left) _ _ e (c .if4 .taken)
 
--- src/lib.rt:82:34
 read-groups-cast-value : (t : ℕ) → read-groups-lts.Need-cast-value (
   read-groups-below t,
   read-groups.Post,
 ) (read-groups-at t) read-groups.Post
 read-groups-cast-value t c = search needs
 
--- src/lib.rt:82:27
 read-groups-mul-value : (t : ℕ) → read-groups-lts.Need-mul-value (
   read-groups-below t,
   read-groups.Post,
 ) (read-groups-at t) read-groups.Post
 read-groups-mul-value t c = search needs
 
--- src/lib.rt:82:17
 read-groups-add-value : (t : ℕ) → read-groups-lts.Need-add-value (
   read-groups-below t,
   read-groups.Post,
 ) (read-groups-at t) read-groups.Post
 read-groups-add-value t c = omega (arith, c .before .before .before .before .before .before .shared-slice-known2 .given (c .before .before .before .before .before .before .before .before .before .before .args .at))
 
--- src/lib.rt:84:27
 read-groups-cast-t20 : (t : ℕ) → read-groups-lts.Need-cast-t20 (
   read-groups-below t,
   read-groups.Post,
 ) (read-groups-at t) read-groups.Post
 read-groups-cast-t20 t c = search needs
 
--- src/lib.rt:63:1
 read-groups-returns-6 : (t : ℕ) → read-groups-lts.Need-returns-6 (
   read-groups-below t,
   read-groups.Post,
@@ -181,7 +162,6 @@ read-groups-returns-6 t c =
     let grow : suc (a .groups - 1) ≡ a .groups = omega (arith, (c .before .before .before .before .before .before .before .before .before .if1 .left)) in
     rest-value (a .groups - 1) (a .groups) grow s (a .at) (a .at + 1) (omega arith) (c .before .before .before .before .before .before .before .before .if2 .left) (c .before .before .before .before .before .before .if3 .left) _ _ e (c .before .if4 .left) (c .if5 .taken)
 
--- src/lib.rt:63:1
 read-groups-returns-7 : (t : ℕ) → read-groups-lts.Need-returns-7 (
   read-groups-below t,
   read-groups.Post,

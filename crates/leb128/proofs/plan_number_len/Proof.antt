@@ -7,20 +7,15 @@ use Rattle.leb128.proofs.Laws.{encode-last, encode-few}
 use Rattle.leb128.proofs.Write.{encode-two, three-or-more}
 use Rattle.leb128.proofs.plan_number_len.Statement.{statement}
 use Rattle.leb128.proofs.plan_number_len.Tie as tie
-use Rattle.leb128.proofs.plan_number_len.Reads as reads
-use Rattle.leb128.proofs.plan_number_len.Lts as lts
 
--- src/lib.rt:91:1
 returns : tie.Need-returns
 unfolding planGroups
 returns c = sym (ap length (encode-last 2 (c .before .args .value) (c .if1 .taken)))
 
--- src/lib.rt:91:1
 returns-2 : tie.Need-returns-2
 unfolding planGroups
 returns-2 c = sym (ap length (encode-two 1 (c .before .before .args .value) (c .before .if1 .left) (c .if2 .taken)))
 
--- src/lib.rt:91:1
 returns-3 : tie.Need-returns-3
 unfolding planGroups
 returns-3 c = omega (arith, three-or-more 0 (c .before .before .args .value) (c .if2 .left), encode-few 3 (c .before .before .args .value))

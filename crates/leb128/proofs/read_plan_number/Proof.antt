@@ -7,36 +7,27 @@ use Rattle.leb128.proofs.ReadAt.{lost-end, lost-none, found-last, found
 use borrow.Author.Needs.{needs}
 use Rattle.leb128.proofs.read_plan_number.Statement.{statement}
 use Rattle.leb128.proofs.read_plan_number.Tie as tie
-use Rattle.leb128.proofs.read_plan_number.Reads as reads
-use Rattle.leb128.proofs.read_plan_number.Lts as lts
 
--- src/lib.rt:24:9
 returns : tie.Need-returns
 unfolding planGroups
 returns c = answer-lost 3 _ _ (lost-end 3 _ _ (c .if1 .taken))
 
--- src/lib.rt:26:16
 sub-left : tie.Need-sub-left
 sub-left c = search needs
 
--- src/lib.rt:27:13
 shared-slice-read-a : tie.Need-shared-slice-read-a
 shared-slice-read-a c = search needs
 
--- src/lib.rt:27:13
 cast-a : tie.Need-cast-a
 cast-a c = omega (arith, c .shared-slice-known .given (c .before .before .args .at))
 
--- src/lib.rt:29:37
 add-t11 : tie.Need-add-t11
 add-t11 c = search needs
 
--- src/lib.rt:29:9
 returns-2 : tie.Need-returns-2
 unfolding planGroups
 returns-2 c = answer-value 3 _ _ _ 1 (found-last 2 _ _ (c .before .before .if1 .left) (c .if2 .taken)) (omega arith)
 
--- src/lib.rt:32:9
 returns-3 : tie.Need-returns-3
 unfolding planGroups
 returns-3 c =
@@ -44,19 +35,15 @@ returns-3 c =
     let s = a .bytes .now in
     answer-lost 3 s (a .at) (lost-more 2 s (a .at) (a .at + 1) (c .before .before .before .if1 .left) (c .before .if2 .left) (omega arith) (lost-end 2 s (a .at + 1) (omega arith)))
 
--- src/lib.rt:34:19
 add-b : tie.Need-add-b
 add-b c = search needs
 
--- src/lib.rt:34:13
 shared-slice-read-b : tie.Need-shared-slice-read-b
 shared-slice-read-b c = search needs
 
--- src/lib.rt:34:13
 cast-b : tie.Need-cast-b
 cast-b c = omega (arith, c .shared-slice-known2 .given (c .before .before .before .before .before .args .at + 1))
 
--- src/lib.rt:37:13
 returns-4 : tie.Need-returns-4
 unfolding planGroups
 returns-4 c =
@@ -65,19 +52,15 @@ returns-4 c =
     let b = found-last 1 s (a .at + 1) (omega arith) (c .before .if4 .taken) in
     answer-lost 3 s (a .at) (lost-zero 2 s (a .at) (a .at + 1) (c .before .before .before .before .before .before .if1 .left) (c .before .before .before .before .if2 .left) (omega arith) _ 1 b (c .if5 .taken))
 
--- src/lib.rt:39:44
 mul-t15 : tie.Need-mul-t15
 mul-t15 c = search needs
 
--- src/lib.rt:39:34
 add-t16 : tie.Need-add-t16
 add-t16 c = omega (arith, c .before .before .before .before .before .shared-slice-known .given (c .before .before .before .before .before .before .before .args .at), c .before .before .shared-slice-known2 .given (c .before .before .before .before .before .before .before .args .at + 1))
 
--- src/lib.rt:39:53
 add-t17 : tie.Need-add-t17
 add-t17 c = search needs
 
--- src/lib.rt:39:9
 returns-5 : tie.Need-returns-5
 unfolding planGroups
 returns-5 c =
@@ -86,7 +69,6 @@ returns-5 c =
     let b = found-last 1 s (a .at + 1) (omega arith) (c .before .if4 .taken) in
     answer-value 3 s (a .at) _ 2 (found-more 2 s (a .at) (a .at + 1) (c .before .before .before .before .before .before .if1 .left) (c .before .before .before .before .if2 .left) (omega arith) _ 1 b (omega arith)) (omega (arith, c .before .before .before .before .before .shared-slice-known .given (c .before .before .before .before .before .before .before .args .at), c .before .before .shared-slice-known2 .given (c .before .before .before .before .before .before .before .args .at + 1)))
 
--- src/lib.rt:42:9
 returns-6 : tie.Need-returns-6
 unfolding planGroups
 returns-6 c =
@@ -95,19 +77,15 @@ returns-6 c =
     let b = lost-more 1 s (a .at + 1) (a .at + 2) (omega arith) (c .before .if4 .left) (omega arith) (lost-end 1 s (a .at + 2) (omega arith)) in
     answer-lost 3 s (a .at) (lost-more 2 s (a .at) (a .at + 1) (c .before .before .before .before .before .before .if1 .left) (c .before .before .before .before .if2 .left) (omega arith) b)
 
--- src/lib.rt:44:19
 add-c : tie.Need-add-c
 add-c c = search needs
 
--- src/lib.rt:44:13
 shared-slice-read-c : tie.Need-shared-slice-read-c
 shared-slice-read-c c = search needs
 
--- src/lib.rt:44:13
 cast-c : tie.Need-cast-c
 cast-c c = omega (arith, c .shared-slice-known3 .given (c .before .before .before .before .before .before .before .before .args .at + 2))
 
--- src/lib.rt:46:9
 returns-7 : tie.Need-returns-7
 unfolding planGroups
 returns-7 c =
@@ -117,27 +95,21 @@ returns-7 c =
     let b = lost-zero 1 s (a .at + 1) (a .at + 2) (omega arith) (c .before .before .before .if4 .left) (omega arith) _ 1 d (c .if7 .taken) in
     answer-lost 3 s (a .at) (lost-more 2 s (a .at) (a .at + 1) (c .before .before .before .before .before .before .before .before .if1 .left) (c .before .before .before .before .before .before .if2 .left) (omega arith) b)
 
--- src/lib.rt:49:54
 mul-t22 : tie.Need-mul-t22
 mul-t22 c = search needs
 
--- src/lib.rt:49:44
 add-t23 : tie.Need-add-t23
 add-t23 c = omega (arith, c .before .before .before .before .before .before .before .before .shared-slice-known .given (c .before .before .before .before .before .before .before .before .before .before .args .at), c .before .before .before .before .before .shared-slice-known2 .given (c .before .before .before .before .before .before .before .before .before .before .args .at + 1))
 
--- src/lib.rt:49:37
 mul-t24 : tie.Need-mul-t24
 mul-t24 c = omega (arith, c .before .before .before .before .before .before .before .before .shared-slice-known .given (c .before .before .before .before .before .before .before .before .before .before .args .at), c .before .before .before .before .before .shared-slice-known2 .given (c .before .before .before .before .before .before .before .before .before .before .args .at + 1))
 
--- src/lib.rt:49:27
 add-t25 : tie.Need-add-t25
 add-t25 c = omega (arith, c .before .before .before .before .before .before .before .before .shared-slice-known .given (c .before .before .before .before .before .before .before .before .before .before .args .at), c .before .before .before .before .before .shared-slice-known2 .given (c .before .before .before .before .before .before .before .before .before .before .args .at + 1))
 
--- src/lib.rt:49:64
 add-t26 : tie.Need-add-t26
 add-t26 c = search needs
 
--- src/lib.rt:20:1
 returns-8 : tie.Need-returns-8
 unfolding planGroups
 returns-8 c =
@@ -147,7 +119,6 @@ returns-8 c =
     let b = found-more 1 s (a .at + 1) (a .at + 2) (omega arith) (c .before .before .before .before .if4 .left) (omega arith) _ 1 d (omega arith) in
     answer-value 3 s (a .at) _ 3 (found-more 2 s (a .at) (a .at + 1) (c .before .before .before .before .before .before .before .before .before .if1 .left) (c .before .before .before .before .before .before .before .if2 .left) (omega arith) _ 2 b (omega arith)) (omega (arith, c .before .before .before .before .before .before .before .before .shared-slice-known .given (c .before .before .before .before .before .before .before .before .before .before .args .at), c .before .before .before .before .before .shared-slice-known2 .given (c .before .before .before .before .before .before .before .before .before .before .args .at + 1)))
 
--- src/lib.rt:20:1
 returns-9 : tie.Need-returns-9
 unfolding planGroups
 returns-9 c =

@@ -8,144 +8,110 @@ use Rattle.leb128.proofs.Write.{add-two, encode-two, encode-three, two-
 use borrow.Author.Needs.{needs}
 use Rattle.leb128.proofs.write_plan_number.Statement.{statement}
 use Rattle.leb128.proofs.write_plan_number.Tie as tie
-use Rattle.leb128.proofs.write_plan_number.Reads as reads
-use Rattle.leb128.proofs.write_plan_number.Lts as lts
 
--- src/lib.rt:109:9
 returns : tie.Need-returns
 unfolding planGroups
 returns c = too-large 3 _ _ _ (c .if1 .taken)
 
--- src/lib.rt:112:9
 returns-2 : tie.Need-returns-2
 unfolding planGroups
 returns-2 c = no-room 3 _ _ _ (c .before .if1 .left) (omega (arith, encode-some 3 (c .before .before .args .value) (omega arith)))
 
--- src/lib.rt:114:16
 sub-room : tie.Need-sub-room
 sub-room c = search needs
 
--- src/lib.rt:116:19
 cast-out : tie.Need-cast-out
 cast-out c = search needs
 
--- src/lib.rt:116:9
 slice-write-out : tie.Need-slice-write-out
 slice-write-out c = search needs
 
--- src/lib.rt:117:36
 add-t9 : tie.Need-add-t9
 add-t9 c = search needs
 
--- src/lib.rt:117:9
 same-length : tie.Need-same-length
 same-length c = search needs
 
--- src/lib.rt:117:9
 returns-3 : tie.Need-returns-3
 unfolding planGroups
 returns-3 c =
     let a = c .before .before .before .args in
     room 3 (a .out .now) (a .at) (a .value) _ (encode-last 2 (a .value) (c .if3 .taken)) (c .before .before .if1 .left) (omega arith)
 
--- src/lib.rt:120:9
 returns-4 : tie.Need-returns-4
 unfolding planGroups
 returns-4 c = no-room 3 _ _ _ (c .before .before .before .if1 .left) (omega (arith, two-or-more 1 (c .before .before .before .before .args .value) (c .before .if3 .left)))
 
--- src/lib.rt:123:20
 add-out : tie.Need-add-out
 add-out c = search needs
 
--- src/lib.rt:123:19
 cast-out-2 : tie.Need-cast-out-2
 cast-out-2 c = search needs
 
--- src/lib.rt:123:9
 slice-write-out-2 : tie.Need-slice-write-out-2
 slice-write-out-2 c = search needs
 
--- src/lib.rt:124:23
 cast-out-3 : tie.Need-cast-out-3
 cast-out-3 c = search needs
 
--- src/lib.rt:124:13
 add-out-2 : tie.Need-add-out-2
 add-out-2 c = search needs
 
--- src/lib.rt:124:9
 slice-write-out-3 : tie.Need-slice-write-out-3
 slice-write-out-3 c = simp length-set (omega arith)
 
--- src/lib.rt:125:36
 add-t14 : tie.Need-add-t14
 add-t14 c = search needs
 
--- src/lib.rt:125:9
 same-length-2 : tie.Need-same-length-2
 same-length-2 c = search needs
 
--- src/lib.rt:125:9
 returns-5 : tie.Need-returns-5
 unfolding planGroups
 returns-5 c =
     let a = c .before .before .before .before .before .args in
     simp add-one (room 3 (a .out .now) (a .at) (a .value) _ (encode-two 1 (a .value) (c .before .before .if3 .left) (c .if5 .taken)) (c .before .before .before .before .if1 .left) (omega arith))
 
--- src/lib.rt:128:9
 returns-6 : tie.Need-returns-6
 unfolding planGroups
 returns-6 c = no-room 3 _ _ _ (c .before .before .before .before .before .if1 .left) (omega (arith, three-or-more 0 (c .before .before .before .before .before .before .args .value) (c .before .if5 .left)))
 
--- src/lib.rt:130:16
 add-out-3 : tie.Need-add-out-3
 add-out-3 c = search needs
 
--- src/lib.rt:130:15
 cast-out-4 : tie.Need-cast-out-4
 cast-out-4 c = search needs
 
--- src/lib.rt:130:5
 slice-write-out-4 : tie.Need-slice-write-out-4
 slice-write-out-4 c = search needs
 
--- src/lib.rt:131:20
 add-out-4 : tie.Need-add-out-4
 add-out-4 c = search needs
 
--- src/lib.rt:131:19
 cast-out-5 : tie.Need-cast-out-5
 cast-out-5 c = search needs
 
--- src/lib.rt:131:9
 add-out-5 : tie.Need-add-out-5
 add-out-5 c = search needs
 
--- src/lib.rt:131:5
 slice-write-out-5 : tie.Need-slice-write-out-5
 slice-write-out-5 c = simp length-set (omega arith)
 
--- src/lib.rt:132:19
 cast-out-6 : tie.Need-cast-out-6
 cast-out-6 c = search needs
 
--- src/lib.rt:132:9
 add-out-6 : tie.Need-add-out-6
 add-out-6 c = search needs
 
--- src/lib.rt:132:5
 slice-write-out-6 : tie.Need-slice-write-out-6
 slice-write-out-6 c = simp length-set (omega arith)
 
--- src/lib.rt:133:25
 add-t6 : tie.Need-add-t6
 add-t6 c = search needs
 
--- src/lib.rt:104:1
 same-length-3 : tie.Need-same-length-3
 same-length-3 c = search needs
 
--- src/lib.rt:104:1
 returns-7 : tie.Need-returns-7
 unfolding planGroups
 returns-7 c =

@@ -8,9 +8,6 @@ use Rattle.text.specs.Laid.{Put}
 use Rattle.text.proofs.Laid.{put-nil, put-length, next-put, all-put}
 use Rattle.text.proofs.put_word.Statement.{statement}
 use Rattle.text.proofs.put_word.Tie as tie
-use Rattle.text.proofs.put_word.Reads as reads
-use Rattle.text.proofs.put_word.Lts as lts
-use Rattle.text.proofs.put_byte.Reads as put-byte-reads
 
 abbrev Inv-loop : tie.InvT-loop
 Inv-loop out₀ at word next₀ i₀ out next i = Put at (take i word) out₀ next out × (i ≤ length word)
@@ -18,48 +15,35 @@ Inv-loop out₀ at word next₀ i₀ out next i = Put at (take i word) out₀ ne
 abbrev μ-loop : tie.MeasureT-loop
 μ-loop out₀ at word next₀ i₀ out next i = length word - i
 
--- src/lib.rt:26:5
 loop-holds : tie.Need-loop-holds Inv-loop μ-loop
 loop-holds c = (put-nil _ _, search needs)
 
--- src/lib.rt:27:36
 shared-slice-read-put-byte : tie.Need-shared-slice-read-put-byte Inv-loop μ-loop
 shared-slice-read-put-byte c = search needs
 
--- src/lib.rt:27:9
 put-byte-requires : tie.Need-put-byte-requires Inv-loop μ-loop
 put-byte-requires c κs =
     let l = c .before .before .before .loop in
     let a = c .before .before .before .before .before .before .args in
     omega (arith, length-take-le (l .i) (a .word .now) (l .inv .1))
 
--- src/lib.rt:28:9
 add-i : tie.Need-add-i Inv-loop μ-loop
 add-i c = search needs
 
--- src/lib.rt:26:5
 loop-less : tie.Need-loop-less Inv-loop μ-loop
 loop-less c = search needs
 
--- src/lib.rt:26:5
 loop-again : tie.Need-loop-again Inv-loop μ-loop
 loop-again c =
     let l = c .before .before .before .before .before .before .loop in
     let a = c .before .before .before .before .before .before .before .before .before .args in
-    let p = c .before .before .put-byte in
-    let h = c .before .before .before .before .before .loop-test .taken in
-    (next-put (a .at) (l .i) (a .word .now) (a .out .now) (l .next) (l .out) (l .inv .0) (p .result) (p .last .0) h (p .ensures), search needs)
+    (next-put (l .i) (a .word .now) (c .before .before .before .before .before .loop-test .taken) (l .inv .0) (c .before .before .put-byte .ensures), search needs)
 
--- src/lib.rt:20:1
 same-length : tie.Need-same-length Inv-loop μ-loop
 same-length c = put-length (c .before .loop .inv .0)
 
--- src/lib.rt:20:1
 returns : tie.Need-returns Inv-loop μ-loop
-returns c =
-    let l = c .before .loop in
-    let a = c .before .before .before .before .args in
-    all-put (a .at) (l .i) (a .word .now) (a .out .now) (l .next) (l .out) (l .inv .0) (c .loop-test .left)
+returns c = all-put (c .before .loop .i) (c .loop-test .left) (c .before .loop .inv .0)
 
 pub put-word-spec : {M : Type 1} → statement M
 put-word-spec =

@@ -4,7 +4,7 @@ use mathlib.Core.Path.{_≡_, refl, sym, _∙_}
 use native.Mathlib.Omega.{arith}
 use borrow.Author.Needs.{needs}
 use Rattle.graph.specs.Lists.{tailOf, headOf, costOf}
-use Rattle.graph.proofs.Filling.{Filled, filled-none, filled-next, filled-all}
+use Rattle.graph.proofs.Filling.{Filled, stepped, filled-none, filled-next, filled-all}
 use Rattle.graph.proofs.read.fill.Statement.{statement}
 use Rattle.graph.proofs.read.fill.Tie as tie
 use Rattle.graph.proofs.read.fill.Reads as reads
@@ -31,9 +31,13 @@ loop-holds c = filled-none _ _ _ _ _ _ _ _ (c .first .ensures) (c .before .befor
 store-requires : tie.Need-store-requires Inv-loop μ-loop
 store-requires c κs =
     let a = c .before .before .before .before .before .before .before .before .before .before in
-    let f = c .before .before .before .before .loop .inv in (
-      omega (arith, c .before .before .before .loop-test .taken, f .tails .size, a .pre .1),
-      (omega (arith, c .before .before .before .loop-test .taken, f .heads .size, a .pre .1 .1), omega (arith, c .before .before .before .loop-test .taken, f .costs .size, a .pre .1 .1)),
+    let f = c .before .before .before .before .loop .inv in
+    let l = c .before .before .before .loop-test .taken in (
+      omega (arith, l, f .tails .size, a .pre .1),
+      (
+        omega (arith, l, f .heads .size, a .pre .1 .1),
+        (omega (arith, l, f .costs .size, a .pre .1 .1), stepped _ _ _ (a .args .at) _ _ l (f .stored)),
+      ),
     )
 
 -- src/read.rt:59:9

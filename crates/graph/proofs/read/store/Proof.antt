@@ -8,11 +8,11 @@ use Rattle.graph.proofs.read.store.Statement.{statement}
 use Rattle.graph.proofs.read.store.Tie as tie
 use Rattle.graph.proofs.read.store.Reads as reads
 use Rattle.graph.proofs.read.store.Lts as lts
-use Rattle.graph.proofs.Cursor.step.Reads as step-reads
+use Rattle.graph.proofs.Cursor.step_checked.Reads as step-checked-reads
 
 -- src/read.rt:35:38
-step-requires : tie.Need-step-requires
-step-requires c κs = search needs
+step-checked-requires : tie.Need-step-checked-requires
+step-checked-requires c κs = c .before .before .before .before .pre .1 .1 .1
 
 -- src/read.rt:35:24
 enum-known-edge : tie.Need-enum-known-edge
@@ -25,7 +25,7 @@ enum-told c = search needs
 -- src/read.rt:36:9
 returns : tie.Need-returns
 returns c =
-    let q = sym (c .before .before .step .ensures) ∙ c .enum-told .given .1 in
+    let q = sym (c .before .before .step-checked .ensures) ∙ c .enum-told .given .1 in
     let a = c .before .before .before .before .before .before .before .args in
     (cursor-kept (a .cursor) tailOf (a .i) [] _ _ _ q, (list-kept (a .cursor) tailOf (a .i) _ _ _ _ q, (list-kept (a .cursor) headOf (a .i) _ _ _ _ q, list-kept (a .cursor) costOf (a .i) _ _ _ _ q)))
 
@@ -68,7 +68,7 @@ same-length-3 c = search needs
 -- src/read.rt:26:1
 returns-2 : tie.Need-returns-2
 returns-2 c =
-    let q = sym (c .before .before .before .step .ensures) ∙ c .before .edge .given .1 in
+    let q = sym (c .before .before .before .step-checked .ensures) ∙ c .before .edge .given .1 in
     let a = c .before .before .before .before .before .before .before .before .args in
     (cursor-moved (a .cursor) tailOf (a .i) [] _ _ _ q, (list-stored (a .cursor) tailOf (a .i) _ _ _ _ q, (list-stored (a .cursor) headOf (a .i) _ _ _ _ q, list-stored (a .cursor) costOf (a .i) _ _ _ _ q)))
 
@@ -76,7 +76,7 @@ pub store-spec : {M : Type 1} → statement M
 store-spec =
     tie.close
     (tie.spec
-    step-requires
+    step-checked-requires
     enum-known-edge
     enum-told
     returns

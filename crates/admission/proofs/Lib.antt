@@ -1,0 +1,4 @@
+pub mod InForce
+pub mod AnchorRule
+pub mod Verdicts
+pub mod Admits

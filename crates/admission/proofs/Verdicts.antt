@@ -1,0 +1,138 @@
+-- Laws for the code that decides a call: its rows downwards.
+-- Assumes nothing.
+use Prim.Native.Nat.{ℕ, _+_, _*_, _<_}
+use native.Mathlib.Omega.{arith}
+use mathlib.Core.Path.{_≡_, refl, sym, ap, _∙_}
+use mathlib.Core.Bool.{Bool, true, false, not, _&&_, _||_}
+use mathlib.Core.List.{List, [], _∷_}
+use lib.ListN.{length, getD}
+use lib.Dec.{ltb, eqb}
+use borrow.Author.Tests.{ltb-true, eqb-true, eq-eqb, ne-eqb}
+use Rattle.graph.specs.declared.Edge.{Edge}
+use Rattle.graph.specs.declared.Header.the-variants.{Counts}
+use Rattle.graph.specs.declared.PlanRead.{PlanRead}
+use Rattle.graph.specs.declared.PlanRead.the-variants.{Sizes}
+use Rattle.graph.specs.declared.PlanRead.the-variants as plan
+use Rattle.graph.specs.Plan.{Decoded, accepted, refused, header, afterHeader, decode, firstAt, edgesFrom, sizes}
+use Rattle.graph.specs.Lists.{Fault, none, fault, edgesIn}
+use Rattle.graph.proofs.Tests.{or-right, and-true, not-false}
+use Rattle.graph.proofs.Filling.{sized-by}
+use Rattle.search.specs.Job.{house}
+use Rattle.search.specs.Call.{inForce, row, first, endsRow, tablesRow, scheduleRow, memoryRow, goalRow, edgesRow, faultIn, faultOf, jobIn, jobFrom, jobOf}
+use Rattle.admission.specs.declared.Verdict.{Verdict}
+use Rattle.admission.specs.declared.Verdict.the-variants.{Refused}
+use Rattle.admission.specs.Admission.{verdict, verdictOf, Decided}
+use Rattle.admission.specs.Steps.{planVerdict}
+
+-- ---- row 12, then row 13
+
+module _ (v m : ℕ) (h : List ℕ) (goal : ℕ) (es : List Edge) where
+  pub goal-fails : (getD h goal 0 ≡ 0 → ⊥) → Refused 12 0 ≡ verdict v m (first (row (not (eqb (getD h goal 0) 0)) 12 0 ∷ edgesRow h 0 es ∷ []))
+  unfolding verdict first row
+  goal-fails n = rw (ne-eqb (getD h goal 0) 0 n)
+
+  only : (f : Fault) → first (f ∷ []) ≡ f
+  unfolding first
+  only none = refl
+  only (fault n p) = refl
+
+  pub goal-holds :
+      (r : Verdict) → getD h goal 0 ≡ 0 → r ≡ verdict v m (edgesRow h 0 es) →
+      r ≡ verdict v m (first (row (not (eqb (getD h goal 0) 0)) 12 0 ∷ edgesRow h 0 es ∷ []))
+  unfolding first row
+  goal-holds r z e = rw (eq-eqb (getD h goal 0) 0 z) (e ∙ ap (verdict v m) (sym (only (edgesRow h 0 es))))
+
+-- ---- the rows of a call whose plan was checked
+
+-- the goal is a vertex, and the anchor heuristic has a number for each vertex
+pub ends-hold : (start goal v : ℕ) (b : Bool) → b ≡ not (ltb start v && ltb goal v) → b ≡ false → goal < v
+ends-hold start goal v b e f =
+    ltb-true goal v (and-true (ltb start v) (ltb goal v) (not-false (ltb start v && ltb goal v) (sym e ∙ f)) .1)
+
+pub tables-hold :
+    (count a v g : ℕ) (b : Bool) → b ≡ (ltb 8 count || not (eqb a v && eqb g (count * v))) → b ≡ false → a ≡ v
+tables-hold count a v g b e f =
+    eqb-true a v
+    (and-true (eqb a v) (eqb g (count * v))
+    (not-false (eqb a v && eqb g (count * v)) (or-right (ltb 8 count) (not (eqb a v && eqb g (count * v))) (sym e ∙ f))) .0)
+
+module _
+    (s : List ℕ) (start goal : ℕ) (anchor sheets : List ℕ) (count : ℕ) (schedule : List ℕ) (route work v m at : ℕ)
+    (h : header s ≡ Counts v m at) (g : sizes (edgesFrom v m s (firstAt at)) ≡ Sizes v m) where
+  abbrev edges : List Edge
+  edges = edgesIn (edgesFrom v m s (firstAt at))
+
+  abbrev Is : Verdict → Type 0
+  Is r = Decided s start goal anchor sheets count schedule route work r
+
+  accepts : decode s ≡ accepted v edges
+  unfolding decode afterHeader
+  accepts = rw h (sized-by (edgesFrom v m s (firstAt at)) v m g .0)
+
+  size : length edges ≡ m
+  size = sized-by (edgesFrom v m s (firstAt at)) v m g .1
+
+  -- the rows, over the code's tests
+  abbrev ends : Bool
+  ends = not (ltb start v && ltb goal v)
+
+  abbrev tables : Bool
+  tables = ltb 8 count || not (eqb (length anchor) v && eqb (length sheets) (count * v))
+
+  abbrev memory : Bool
+  memory = ltb route v || ltb work (5 * v + 1 + 2 * m)
+
+  abbrev last : List Fault
+  last = row (not (eqb (getD anchor goal 0) 0)) 12 0 ∷ edgesRow anchor 0 edges ∷ []
+
+  by-rows :
+      (r : Verdict) →
+      r ≡ verdict v m (first (row ends 8 0 ∷ row tables 9 0 ∷ scheduleRow (inForce house schedule) ∷ row memory 11 0 ∷ last)) → Is r
+  unfolding verdictOf faultOf faultIn jobOf jobFrom jobIn endsRow tablesRow memoryRow goalRow edgesIn
+  by-rows r e = record { decided = λ budget memory p q. e ∙ sym (rw (accepts, p, q, size)) }
+
+  module _ (b8 : Bool) (e8 : b8 ≡ ends) where
+    pub call-8 : b8 ≡ true → Is (Refused 8 0)
+    unfolding verdict first row
+    call-8 t = by-rows (Refused 8 0) (rw (sym e8, t))
+
+    module _ (f8 : b8 ≡ false) (b9 : Bool) (e9 : b9 ≡ tables) where
+      pub call-9 : b9 ≡ true → Is (Refused 9 0)
+      unfolding verdict first row
+      call-9 t = by-rows (Refused 9 0) (rw (sym e8, f8, sym e9, t))
+
+      module _ (f9 : b9 ≡ false) (b10 : Bool) (e10 : row b10 10 0 ≡ scheduleRow (inForce house schedule)) where
+        pub call-10 : b10 ≡ true → Is (Refused 10 0)
+        unfolding verdict first row
+        call-10 t = by-rows (Refused 10 0) (rw (sym e8, f8, sym e9, f9, sym e10, t))
+
+        module _ (f10 : b10 ≡ false) (b11 : Bool) (e11 : b11 ≡ memory) where
+          pub call-11 : b11 ≡ true → Is (Refused 11 0)
+          unfolding verdict first row
+          call-11 t = by-rows (Refused 11 0) (rw (sym e8, f8, sym e9, f9, sym e10, f10, sym e11, t))
+
+          pub call-last : b11 ≡ false → (r : Verdict) → r ≡ verdict v m (first last) → Is r
+          unfolding verdict first row
+          call-last f r e = by-rows r (rw (sym e8, f8, sym e9, f9, sym e10, f10, sym e11, f) e)
+
+-- ---- a plan that is refused
+
+sizes≢refused : {v m n p : ℕ} → Sizes v m ≡ plan.Refused n p → ⊥
+sizes≢refused h = let z : _≡_ {A = ℕ} 0 1 = cc in omega arith
+
+refused-by : (d : Decoded) (n p : ℕ) → sizes d ≡ plan.Refused n p → d ≡ refused n p
+unfolding sizes
+refused-by (accepted v es) n p h = absurd (sizes≢refused h)
+refused-by (refused k q) n p h =
+    let a : k ≡ n = cc in
+    let b : q ≡ p = cc in
+    rw (a, b)
+
+module _ (s : List ℕ) (start goal : ℕ) (anchor sheets : List ℕ) (count : ℕ) (schedule : List ℕ) (route work : ℕ) where
+  pub plan-refused :
+      (a : PlanRead) (r : Verdict) (n p : ℕ) → r ≡ planVerdict a → a ≡ sizes (decode s) → a ≡ plan.Refused n p →
+      Decided s start goal anchor sheets count schedule route work r
+  unfolding verdictOf verdict faultOf faultIn
+  plan-refused a r n p f e q =
+      let d : decode s ≡ refused n p = refused-by (decode s) n p (sym e ∙ q) in
+      record { decided = λ budget memory k l. f ∙ ap planVerdict q ∙ sym (rw d) }

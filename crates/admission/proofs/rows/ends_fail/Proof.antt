@@ -1,0 +1,13 @@
+-- `ends_fail` meets its contract. Assumes nothing.
+use borrow.Author.Tests.{lt-ltb, le-ltb}
+use Rattle.admission.proofs.rows.ends_fail.Statement.{statement}
+use Rattle.admission.proofs.rows.ends_fail.Tie as tie
+
+returns : tie.Need-returns
+returns c = simp (le-ltb _ _ (c .if1 .taken))
+
+returns-2 : tie.Need-returns-2
+returns-2 c = simp (lt-ltb _ _ (c .if1 .left))
+
+pub ends-fail-spec : {M : Type 1} → statement M
+ends-fail-spec = tie.close (tie.spec returns returns-2)

@@ -1,0 +1,84 @@
+// Rows 8, 9 and 11 of a call, and the rows 8 to 13 downwards.
+ghost use Prim.Native.Nat.{_+_, _*_};
+ghost use mathlib.Core.Path.{_≡_};
+ghost use mathlib.Core.Bool.{not, _&&_, _||_};
+ghost use lib.Dec.{ltb, eqb};
+ghost use Rattle.graph.specs.declared.Header.the-variants.{Counts};
+ghost use Rattle.graph.specs.declared.PlanRead.the-variants.{Sizes};
+ghost use Rattle.graph.specs.Plan.{header, firstAt, edgesFrom, sizes};
+ghost use Rattle.admission.specs.Admission.{Decided};
+use crate::Verdict;
+use crate::consistency;
+use crate::schedule;
+
+// The most inadmissible heuristics.
+const MAX_GUIDES: u32 = 8;
+
+// Row 8: start or goal is not a vertex.
+fn ends_fail(start: u32, goal: u32, vertices: u32) -> bool
+    ensures { λ r. ⌜ r ≡ not (ltb start vertices && ltb goal vertices) ⌝ }
+{
+    if vertices <= start {
+        return true;
+    }
+    !(goal < vertices)
+}
+
+// Row 9, by the tables' lengths: over 8 guides, or tables not V numbers each.
+fn tables_fail(vertices: u32, anchor: usize, guides: usize, guide_count: u32) -> bool
+    ensures { λ r. ⌜ r ≡ (ltb 8 «guide_count» || not (eqb anchor vertices && eqb guides («guide_count» * vertices))) ⌝ }
+{
+    if MAX_GUIDES < guide_count {
+        return true;
+    }
+    let each = vertices as usize;
+    if anchor != each {
+        return true;
+    }
+    guides != guide_count as usize * each
+}
+
+// Row 11, by the lengths of route and work memory: route under V words, or work under 5V+1+2M.
+fn memory_fails(vertices: u32, edges: u32, route: usize, work: usize) -> bool
+    ensures { λ r. ⌜ r ≡ (ltb route vertices || ltb work (5 * vertices + 1 + 2 * edges)) ⌝ }
+{
+    let v = vertices as usize;
+    if route < v {
+        return true;
+    }
+    work < 5 * v + 1 + 2 * edges as usize
+}
+
+// The rows of a call whose plan was checked.
+pub fn call_verdict(
+    bytes: &[u8],
+    vertices: u32,
+    edges: u32,
+    at: usize,
+    start: u32,
+    goal: u32,
+    anchor: &[u32],
+    guides: &[u32],
+    guide_count: u32,
+    schedule: &[u32],
+    route_len: usize,
+    work_len: usize,
+) -> Verdict
+    requires { ⌜ header (now bytes) ≡ Counts vertices edges at ⌝ }
+    requires { ⌜ sizes (edgesFrom vertices edges (now bytes) (firstAt at)) ≡ Sizes vertices edges ⌝ }
+    ensures { λ r. ⌜ Decided (now (bytes .entry)) start goal (now (anchor .entry)) (now (guides .entry)) «guide_count» (now (schedule .entry)) «route_len» «work_len» r ⌝ }
+{
+    if ends_fail(start, goal, vertices) {
+        return Verdict::Refused(8, 0);
+    }
+    if tables_fail(vertices, anchor.len(), guides.len(), guide_count) {
+        return Verdict::Refused(9, 0);
+    }
+    if schedule::schedule_fails(schedule) {
+        return Verdict::Refused(10, 0);
+    }
+    if memory_fails(vertices, edges, route_len, work_len) {
+        return Verdict::Refused(11, 0);
+    }
+    consistency::anchor_verdict(bytes, vertices, edges, at, goal, anchor)
+}

@@ -1,0 +1,35 @@
+-- Job A is admitted, and its guarantee bounds the cost of every walk.
+-- Assumes nothing.
+use mathlib.Core.Path.{_≡_, refl, ap}
+use mathlib.Core.List.{List}
+use Prim.Native.Nat.{ℕ, _*_, _≤_}
+use Rattle.leb128.specs.Number
+use Rattle.leb128.specs.Number.{planGroups, answered, read}
+use Rattle.graph.specs.Rows
+use Rattle.graph.specs.Rows.{vertexCountRows, edgeCountRows, tailRows, headRows, costRows, through, throughAll, taking}
+use Rattle.graph.specs.Plan.{leastAfter, past, nextEdge, before, onward, edgesFrom, header, afterHeader, decode}
+use Rattle.graph.specs.Lists.{none}
+use Rattle.search.specs.Walk.{Walk}
+use Rattle.search.specs.Call.{inForce, outOfRange, rising, row, first, endsRow, tablesRow, scheduleRow, memoryRow, goalRow, edgesRow, faultIn, faultOf, jobIn, jobFrom, jobOf}
+use Rattle.search.specs.Outcome.{Figures, figures, outcome, answer, memoryAfter}
+use Rattle.search.specs.Guarantee.{Guarantee}
+use Rattle.search.proofs.Guarantee.{guaranteed}
+use Rattle.cases.specs.Cases.{jobA}
+use Rattle.cases.specs.Instance.{Instance, edgesA}
+use Rattle.cases.proofs.Cases.{all-cases}
+
+admits : faultOf (jobA 100) ≡ none
+unfolding Number.decode answered read planGroups vertexCountRows edgeCountRows tailRows headRows costRows through throughAll Rows.take taking leastAfter past nextEdge before onward edgesFrom header afterHeader decode inForce outOfRange rising row first endsRow tablesRow scheduleRow memoryRow goalRow edgesRow faultIn faultOf
+admits = refl
+
+holds : Guarantee (jobOf (jobA 100)) 100 (outcome (jobA 100)) (answer (jobA 100)) (memoryAfter (jobA 100))
+holds = guaranteed (jobA 100) .guarantee admits
+
+shown : (r : List ℕ) (n : ℕ) → Walk (jobOf (jobA 100) .edges) (jobOf (jobA 100) .start) (jobOf (jobA 100) .goal) r n → 10000 * 6 ≤ 10000 * n
+shown r n w =
+    let says = all-cases .job-A .says in
+    rw says at (holds .bounded (ap (λ (f : Figures). f .ending) says) r n w)
+
+pub instance : Instance
+unfolding Number.decode answered read planGroups vertexCountRows edgeCountRows tailRows headRows costRows through throughAll Rows.take taking leastAfter past nextEdge before onward edgesFrom header afterHeader decode jobIn jobFrom jobOf
+instance = record { admitted = admits; edges = refl; guarantee = holds; bounded = shown }

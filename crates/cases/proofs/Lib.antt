@@ -1,0 +1,6 @@
+pub mod Schedules
+pub mod Ends
+pub mod TwoVertices
+pub mod StartIsGoal
+pub mod Cases
+pub mod Instance

@@ -1,0 +1,128 @@
+-- Two vertices and no edge: no route after one turn.
+-- Assumes nothing.
+use mathlib.Core.Path.{_≡_, refl, _∙_, ap}
+use mathlib.Core.Bool.{true, false}
+use mathlib.Core.List.{List, [], _∷_, List·Memᴰ·not-nil}
+use Prim.Native.Nat.{ℕ, zero, suc, _+_, _*_, _-_, _≤_}
+use native.Mathlib.Nat.{not-suc-le-zero}
+use native.Mathlib.Omega.{arith}
+use lib.ListN.{length, take}
+use Rattle.leb128.specs.Number
+use Rattle.leb128.specs.Number.{planGroups, answered, read}
+use Rattle.graph.specs.Rows
+use Rattle.graph.specs.Rows.{vertexCountRows, edgeCountRows, through, throughAll, taking}
+use Rattle.graph.specs.Plan.{accepted, edgesFrom, header, afterHeader, decode}
+use Rattle.graph.specs.Lists.{none, edgesIn}
+use Rattle.search.specs.declared.Factors.{Factors}
+use Rattle.search.specs.declared.Vertex.{Vertex}
+use Rattle.search.specs.declared.Step.{Step}
+use Rattle.search.specs.declared.Step.the-variants.{Stuck, Due}
+use Rattle.search.specs.Job.{Job, guides, heuristic, factors, house, unreached, noPred, fresh, origin, atFirst, at}
+use Rattle.search.specs.Turn.{key, offered, better, leastFrom, least, stepOne, candidate, choose, marked, relaxAll, expand}
+use Rattle.search.specs.Rounds.{State, Stand, Moment, firstTurn, nextTurn, turned, inHand, step, choice, turn, onFinished, settle, settled, begin, onDue, advance, run, moments, search}
+use Rattle.search.specs.Call.{Memory, Call, inForce, pairs, faultOf, tables, jobIn, jobFrom, jobOf}
+use Rattle.search.specs.Outcome.{Figures, answerAt, answerOf, figures, routeAfter, logWord, logAfter, edgesBelow, firstEdges, markWord, vertexWords, workWords, outcome, answerIn, memoryIn}
+use Rattle.search.proofs.Admitted.{clear-none}
+use Rattle.search.proofs.Runs.{run-over, moments-over, stuck≢due}
+use Rattle.cases.specs.Cases.{HandsOver, Schedule, Enough, twoVertices, noRouteAfter, twoVerticesAfter}
+use Rattle.cases.proofs.Schedules.{in-force}
+use Rattle.cases.proofs.Ends.{settled-at, handed}
+
+not-refused : (ws : List ℕ) → Schedule ws → (n : ℕ) (m : Memory) → Enough 2 0 m → faultOf (twoVertices ws n m) ≡ none
+unfolding Number.decode answered read planGroups vertexCountRows edgeCountRows through throughAll Rows.take taking edgesFrom header afterHeader decode faultOf
+not-refused ws y n m e =
+    clear-none (twoVertices ws n m) 2 []
+    (record {
+      starts = omega arith;
+      ends = omega arith;
+      few = omega arith;
+      anchored = refl;
+      guided = refl;
+      schedule = in-force ws y;
+      route-room = e .route;
+      work-room = e .work;
+      goal-zero = refl;
+      rule = λ d q. absurd (List·Memᴰ·not-nil q);
+    })
+
+-- ---- the search, in whatever rounds
+
+module _ (f : Factors) (fs : List Factors) where
+  abbrev job : Job
+  job = record { size = 2; edges = []; start = 0; goal = 1; heuristics = (0 ∷ 0 ∷ []) ∷ []; schedule = f ∷ fs }
+
+  -- the state before and after the one turn
+  abbrev before : State
+  before =
+      record {
+        vertices = origin ∷ fresh ∷ [];
+        progress = record { turn = 0; expansions = 0; rounds = 0; cost = 0 };
+        incumbent = [];
+      }
+
+  abbrev after : State
+  after =
+      record {
+        vertices = marked 0 origin ∷ fresh ∷ [];
+        progress = record { turn = 0; expansions = 1; rounds = 0; cost = 0 };
+        incumbent = [];
+      }
+
+  abbrev moment : Moment
+  moment = record { before = before; choice = record { heuristic = 0; vertex = 0 } }
+
+  abbrev first : Stand
+  first = record { step = Due (100 * 0 + f .w1 * 0) 0; state = before }
+
+  abbrev last : Stand
+  last = record { step = Stuck; state = after }
+
+  one-left : suc (length fs) - 0 ≡ suc (length fs)
+  one-left = omega arith
+
+  begins : begin job ≡ first
+  unfolding begin atFirst guides firstTurn onFinished step stepOne inHand factors heuristic least leastFrom better offered key origin fresh unreached at
+  begins = settled-at job before (length fs) one-left
+
+  turns : advance job first ≡ last
+  unfolding advance onDue turn choice choose candidate expand relaxAll marked turned nextTurn firstTurn guides onFinished step stepOne inHand factors heuristic least leastFrom better offered key origin fresh unreached at
+  turns = settled-at job after (length fs) one-left
+
+  ended : (m a : ℕ) → last .step ≡ Due m a → ⊥
+  ended m a e = stuck≢due e
+
+  runs : (n : ℕ) → run job (suc n) (begin job) ≡ last
+  unfolding run onDue
+  runs n = rw begins (ap (run job n) turns ∙ run-over job last ended n)
+
+  turned-once : (n : ℕ) → moments job (suc n) (begin job) ≡ moment ∷ []
+  unfolding moments onDue choice choose candidate
+  turned-once n = rw begins (ap (λ (z : Stand). moment ∷ moments job n z) turns ∙ ap (λ (ts : List Moment). moment ∷ ts) (moments-over job last ended n))
+
+-- ---- what is handed over
+
+module _ (n : ℕ) (m : Memory) (f : Factors) (fs : List Factors) (c : Call) (e : jobOf c ≡ job f fs) (b : c .budget ≡ suc n) (es : edgesIn (decode (c .bytes)) ≡ [])
+    (lent : c .memory ≡ m) where
+  says : figures (answerIn c none) ≡ noRouteAfter 1
+  unfolding answerIn outcome search answerOf answerAt figures
+  says = rw (e, b, runs f fs n)
+
+  leaves : memoryIn c none ≡ twoVerticesAfter m
+  unfolding memoryIn outcome search routeAfter logAfter logWord workWords firstEdges edgesBelow vertexWords markWord marked origin fresh unreached noPred
+  leaves = rw (e, b, es, lent, runs f fs n, turned-once f fs n)
+
+rounds-of : (ws : List ℕ) → Schedule ws → (n : ℕ) (m : Memory) → (f : Factors) × (fs : List Factors) × (jobOf (twoVertices ws n m) ≡ job f fs)
+unfolding Number.decode answered read planGroups vertexCountRows edgeCountRows through throughAll Rows.take taking edgesFrom header afterHeader decode inForce house pairs tables jobIn jobFrom jobOf
+rounds-of [] y n m = (_, _, refl)
+rounds-of (u ∷ []) y n m = absurd (omega (arith, y .two))
+rounds-of (u ∷ v ∷ ws) y n m = (_, _, refl)
+
+pub two-vertices :
+    (ws : List ℕ) → Schedule ws → (n : ℕ) → 1 ≤ n → (m : Memory) → Enough 2 0 m →
+    HandsOver (twoVertices ws n m) (noRouteAfter 1) (twoVerticesAfter m)
+unfolding Number.decode answered read planGroups vertexCountRows edgeCountRows through throughAll Rows.take taking edgesFrom header afterHeader decode edgesIn
+two-vertices ws y zero h m e = absurd (not-suc-le-zero h)
+two-vertices ws y (suc n) h m e =
+    let c : Call = twoVertices ws (suc n) m in
+    let r = rounds-of ws y (suc n) m in
+    handed c _ _ (not-refused ws y (suc n) m e) (says n m (r .0) (r .1) c (r .2) refl refl refl) (leaves n m (r .0) (r .1) c (r .2) refl refl refl)

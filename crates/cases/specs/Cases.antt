@@ -1,0 +1,181 @@
+-- The cases that document 01 marks (p), one row each in one table. Proved in proofs/Cases.antt.
+use Prim.Native.Nat.{ℕ, suc, _+_, _-_, _*_, _≤_, _<_}
+use mathlib.Core.Path.{_≡_}
+use mathlib.Core.List.{List, [], _∷_, _++_}
+use lib.ListN.{length, getD, take, replicate}
+use Rattle.graph.specs.declared.PlanRead.the-variants.{Refused}
+use Rattle.graph.specs.Plan.{decode}
+use Rattle.graph.specs.Plan
+use Rattle.graph.specs.Lists.{none, over, readAnswer, edgesIn}
+use Rattle.search.specs.Job.{Job, factors, routeEnd, atFirst}
+use Rattle.search.specs.Call.{Memory, Call, faultOf, jobOf}
+use Rattle.search.specs.Outcome.{Figures, route, noRoute, unfinished, refused, figures, workWords, answer, memoryAfter}
+
+-- ---- what a call hands over
+
+-- the paper's number and values for each answer (unused figures are 0), and lent memory after the call
+pub record HandsOver (c : Call) (f : Figures) (m : Memory) : Type 0 where
+  pub says : figures (answer c) ≡ f
+  pub leaves : memoryAfter c ≡ m
+
+-- a route: kept cost, length, finished rounds, turns, W1·W2 of the last finished round
+abbrev pub routed : ℕ → ℕ → ℕ → ℕ → ℕ → Figures
+routed cost length rounds turns bound =
+    record { ending = route; number = 0; position = 0; cost = cost; length = length; rounds = rounds; turns = turns; bound = bound }
+
+abbrev pub noRouteAfter : ℕ → Figures
+noRouteAfter turns = record { ending = noRoute; number = 0; position = 0; cost = 0; length = 0; rounds = 0; turns = turns; bound = 0 }
+
+abbrev pub unfinishedAfter : ℕ → Figures
+unfinishedAfter turns = record { ending = unfinished; number = 0; position = 0; cost = 0; length = 0; rounds = 0; turns = turns; bound = 0 }
+
+abbrev pub refusedAt : ℕ → ℕ → Figures
+refusedAt number position =
+    record { ending = refused; number = number; position = position; cost = 0; length = 0; rounds = 0; turns = 0; bound = 0 }
+
+-- plan bytes are refused, n at p: where they are read, where they are read into lists, and by every planner call, which leaves memory as it is
+pub record PlanRefused (bytes : List ℕ) (n p : ℕ) : Type 0 where
+  pub decoded : decode bytes ≡ Plan.refused n p
+  pub read : (ts hs cs : List ℕ) → readAnswer bytes ts hs cs ≡ Refused n p
+  pub called : (c : Call) → c .bytes ≡ bytes → HandsOver c (refusedAt n p) (c .memory)
+
+-- ---- plan A and job A
+
+abbrev pub planA : List ℕ
+planA = 0x04 ∷ 0x04 ∷ 0x00 ∷ 0x01 ∷ 0x01 ∷ 0x00 ∷ 0x02 ∷ 0x04 ∷ 0x01 ∷ 0x02 ∷ 0x02 ∷ 0x01 ∷ 0x03 ∷ 0x03 ∷ []
+
+-- every word of lent memory before the call, and 4,294,967,295
+abbrev pub old : ℕ
+old = 7
+
+abbrev pub no : ℕ
+no = 4294967295
+
+-- a word more than is needed, in each
+abbrev pub lent : Memory
+lent = record { route = replicate 5 old; log = replicate 5 old; work = replicate 30 old }
+
+-- job A with this anchor table and allowance
+abbrev pub callA : List ℕ → ℕ → Call
+callA anchor budget =
+    record {
+      bytes = planA;
+      start = 0;
+      goal = 3;
+      anchor = anchor;
+      sheets = 0 ∷ 9 ∷ 0 ∷ 0 ∷ [];
+      count = 1;
+      schedule = 200 ∷ 200 ∷ 100 ∷ 100 ∷ [];
+      budget = budget;
+      memory = lent;
+    }
+
+abbrev pub jobA : ℕ → Call
+jobA budget = callA (6 ∷ 5 ∷ 3 ∷ 0 ∷ []) budget
+
+-- work memory: first edge numbers (the last is M), heads, costs, then the words of vertices 0 to 3, and one word as it was
+abbrev pub workA : List ℕ → List ℕ → List ℕ → List ℕ → List ℕ
+workA p q r s =
+    (0 ∷ 2 ∷ 3 ∷ 4 ∷ 4 ∷ []) ++ (1 ∷ 2 ∷ 2 ∷ 3 ∷ []) ++ (1 ∷ 4 ∷ 2 ∷ 3 ∷ []) ++ p ++ q ++ r ++ s ++ (old ∷ [])
+
+-- ---- `02 00`, from 0 to 1
+
+-- zero anchor table, no guides
+abbrev pub twoVertices : List ℕ → ℕ → Memory → Call
+twoVertices schedule budget memory =
+    record {
+      bytes = 0x02 ∷ 0x00 ∷ [];
+      start = 0;
+      goal = 1;
+      anchor = 0 ∷ 0 ∷ [];
+      sheets = [];
+      count = 0;
+      schedule = schedule;
+      budget = budget;
+      memory = memory;
+    }
+
+-- a schedule: up to 16 rounds, two factors each, 100 to 10,000; neither rises from a round to the next
+pub record Schedule (ws : List ℕ) : Type 0 where
+  pub rounds : ℕ
+  pub few : rounds ≤ 16
+  pub two : length ws ≡ rounds * 2
+  pub range : (i : ℕ) → i < length ws → (100 ≤ getD ws i 0) × (getD ws i 0 ≤ 10000)
+  pub falls : (i : ℕ) → suc (suc i) < length ws → getD ws (suc (suc i)) 0 ≤ getD ws i 0
+
+-- lent memory that is large enough: V words of route memory, 5V+1+2M of work memory
+pub record Enough (v m : ℕ) (memory : Memory) : Type 0 where
+  pub route : v ≤ length (memory .route)
+  pub work : 5 * v + 1 + 2 * m ≤ length (memory .work)
+
+-- memory after it: route memory as it was, one turn logged (vertex 0, the anchor), and work memory: three first edge numbers, two vertices
+abbrev pub twoVerticesAfter : Memory → Memory
+twoVerticesAfter m =
+    record {
+      route = m .route;
+      log = over (take (length (m .log)) (0 ∷ [])) (m .log);
+      work = over (0 ∷ 0 ∷ 0 ∷ 0 ∷ 0 ∷ no ∷ 2 ∷ no ∷ no ∷ no ∷ 0 ∷ []) (m .work);
+    }
+
+-- ---- start = goal
+
+-- cost 0, every round finished, no turn
+abbrev pub allRounds : Call → Figures
+allRounds c =
+    let job : Job = jobOf c in
+    let rounds : ℕ = length (job .schedule) in
+    routed 0 1 rounds 0 (factors job (rounds - 1) .w1 * factors job (rounds - 1) .w2)
+
+-- the start alone is the route, nothing is logged, and the vertices are as at first
+abbrev pub startAlone : Call → Memory
+startAlone c =
+    let v : ℕ = jobOf c .size in
+    record {
+      route = over (c .start ∷ replicate (v - 1) routeEnd) (c .memory .route);
+      log = c .memory .log;
+      work = over (workWords v (edgesIn (decode (c .bytes))) (atFirst v (c .start))) (c .memory .work);
+    }
+
+-- ---- the table
+
+pub record Cases : Type 0 where
+  -- (p) Job A
+  pub job-A :
+      HandsOver (jobA 100) (routed 6 4 2 4 10000)
+      (record {
+        route = 0 ∷ 1 ∷ 2 ∷ 3 ∷ old ∷ [];
+        log = 65536 ∷ 65538 ∷ 1 ∷ 65538 ∷ old ∷ [];
+        work = workA (0 ∷ 0 ∷ no ∷ 0 ∷ []) (1 ∷ 1 ∷ 0 ∷ 2 ∷ []) (3 ∷ 3 ∷ 1 ∷ 1 ∷ []) (6 ∷ no ∷ 2 ∷ 4 ∷ []);
+      })
+  -- (p) allowance 2: route 0 2 3, cost 7, one round, bound 40000
+  pub job-A-at-2 :
+      HandsOver (jobA 2) (routed 7 3 1 2 40000)
+      (record {
+        route = 0 ∷ 2 ∷ 3 ∷ no ∷ old ∷ [];
+        log = 65536 ∷ 65538 ∷ old ∷ old ∷ old ∷ [];
+        work = workA (0 ∷ 0 ∷ no ∷ 0 ∷ []) (1 ∷ no ∷ 0 ∷ 4 ∷ []) (4 ∷ 4 ∷ 0 ∷ 0 ∷ []) (7 ∷ no ∷ 2 ∷ 4 ∷ []);
+      })
+  -- (p) allowance 1: unfinished
+  pub job-A-at-1 :
+      HandsOver (jobA 1) (unfinishedAfter 1)
+      (record {
+        route = old ∷ old ∷ old ∷ old ∷ old ∷ [];
+        log = 65536 ∷ old ∷ old ∷ old ∷ old ∷ [];
+        work = workA (0 ∷ 0 ∷ no ∷ 1 ∷ []) (1 ∷ no ∷ 0 ∷ 4 ∷ []) (4 ∷ no ∷ 0 ∷ 4 ∷ []) (no ∷ no ∷ no ∷ 0 ∷ []);
+      })
+  -- (p) `02 00`, 0 to 1, zero anchor table, no guides, allowance 1 or more: no route, 1 turn
+  pub two-vertices :
+      (ws : List ℕ) → Schedule ws → (budget : ℕ) → 1 ≤ budget → (m : Memory) → Enough 2 0 m →
+      HandsOver (twoVertices ws budget m) (noRouteAfter 1) (twoVerticesAfter m)
+  -- (p) Start = goal, allowance 0, valid tables: cost 0, every round finished. So at every allowance
+  pub start-is-goal : (c : Call) → faultOf c ≡ none → c .start ≡ c .goal → HandsOver c (allRounds c) (startAlone c)
+  -- (p) no bytes: 1 at 0
+  pub no-bytes : PlanRefused [] 1 0
+  -- (p) `80 00`: 1 at 0
+  pub not-shortest : PlanRefused (0x80 ∷ 0x00 ∷ []) 1 0
+  -- (p) `04`: 1 at 1
+  pub no-edge-count : PlanRefused (0x04 ∷ []) 1 1
+  -- (p) plan A, anchor 7 5 3 0: 13 at 0
+  pub anchor-breaks-edge-0 : HandsOver (callA (7 ∷ 5 ∷ 3 ∷ 0 ∷ []) 100) (refusedAt 13 0) lent
+  -- (p) plan A, anchor 6 5 3 1: 12
+  pub anchor-not-0-at-goal : HandsOver (callA (6 ∷ 5 ∷ 3 ∷ 1 ∷ []) 100) (refusedAt 12 0) lent

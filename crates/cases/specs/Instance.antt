@@ -1,0 +1,26 @@
+-- One instance of the guarantee: job A. Proved in proofs/Instance.antt.
+use Prim.Native.Nat.{ℕ, _*_, _≤_}
+use mathlib.Core.Path.{_≡_}
+use mathlib.Core.List.{List, [], _∷_}
+use Rattle.graph.specs.declared.Edge.{Edge}
+use Rattle.graph.specs.Lists.{none}
+use Rattle.search.specs.Walk.{Walk}
+use Rattle.search.specs.Call.{faultOf, jobOf}
+use Rattle.search.specs.Outcome.{outcome, answer, memoryAfter}
+use Rattle.search.specs.Guarantee.{Guarantee}
+use Rattle.cases.specs.Cases.{jobA}
+
+abbrev pub edge : ℕ → ℕ → ℕ → Edge
+edge tail head cost = record { tail = tail; head = head; cost = cost }
+
+-- the lanes of plan A
+abbrev pub edgesA : List Edge
+edgesA = edge 0 1 1 ∷ edge 0 2 4 ∷ edge 1 2 2 ∷ edge 2 3 3 ∷ []
+
+pub record Instance : Type 0 where
+  -- job A is not refused, so the guarantee holds of it
+  pub admitted : faultOf (jobA 100) ≡ none
+  pub edges : jobOf (jobA 100) .edges ≡ edgesA
+  pub guarantee : Guarantee (jobOf (jobA 100)) 100 (outcome (jobA 100)) (answer (jobA 100)) (memoryAfter (jobA 100))
+  -- and says of the kept cost, 6, and every chain from 0 to 3
+  pub bounded : (r : List ℕ) (n : ℕ) → Walk edgesA 0 3 r n → 10000 * 6 ≤ 10000 * n

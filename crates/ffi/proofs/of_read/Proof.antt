@@ -1,0 +1,31 @@
+-- `of_read` meets its contract. Assumes nothing.
+use mathlib.Core.Path.{sym, ap}
+use Rattle.ffi.specs.Figures.{readFigures}
+use borrow.Author.Needs.{needs}
+use Rattle.ffi.proofs.of_read.Statement.{statement}
+use Rattle.ffi.proofs.of_read.Tie as tie
+use Rattle.ffi.proofs.of_read.Reads as reads
+use Rattle.ffi.proofs.of_read.Lts as lts
+
+-- src/lib.rt:16:27
+enum-known-read : tie.Need-enum-known-read
+enum-known-read c = search needs
+
+-- src/lib.rt:16:50
+cast-t6 : tie.Need-cast-t6
+cast-t6 c = search needs
+
+-- src/lib.rt:17:29
+enum-known-read-2 : tie.Need-enum-known-read-2
+enum-known-read-2 c = search needs
+
+-- src/lib.rt:12:1
+returns : tie.Need-returns
+returns c = sym (ap readFigures (c .before .read .given .1))
+
+-- src/lib.rt:12:1
+returns-2 : tie.Need-returns-2
+returns-2 c = sym (ap readFigures (c .before .read2 .given .1))
+
+pub of-read-spec : {M : Type 1} → statement M
+of-read-spec = tie.close (tie.spec enum-known-read cast-t6 enum-known-read-2 returns returns-2)

@@ -1,0 +1,25 @@
+-- `secondcoop_check_plan` meets its contract. Assumes nothing.
+use mathlib.Core.Path.{ap, _∙_}
+use Rattle.ffi.specs.Figures.{planFigures}
+use borrow.Author.Needs.{needs}
+use Rattle.ffi.proofs.secondcoop_check_plan.Statement.{statement}
+use Rattle.ffi.proofs.secondcoop_check_plan.Tie as tie
+use Rattle.ffi.proofs.secondcoop_check_plan.Reads as reads
+use Rattle.ffi.proofs.secondcoop_check_plan.Lts as lts
+use Rattle.ffi.proofs.of_plan.Reads as of-plan-reads
+use Rattle.graph.proofs.check.check.Reads as check-reads
+
+-- src/lib.rt:72:24
+check-requires : tie.Need-check-requires
+check-requires c κs = search needs
+
+-- src/lib.rt:72:16
+of-plan-requires : tie.Need-of-plan-requires
+of-plan-requires c κs = search needs
+
+-- src/lib.rt:68:1
+returns : tie.Need-returns
+returns c = c .of-plan .ensures ∙ ap planFigures (c .before .check .ensures)
+
+pub secondcoop-check-plan-spec : {M : Type 1} → statement M
+secondcoop-check-plan-spec = tie.close (tie.spec check-requires of-plan-requires returns)

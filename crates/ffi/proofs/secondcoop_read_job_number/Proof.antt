@@ -1,0 +1,26 @@
+-- `secondcoop_read_job_number` meets its contract. Assumes nothing.
+use mathlib.Core.Path.{ap, _∙_}
+use Rattle.ffi.specs.Figures.{readFigures}
+use borrow.Author.Needs.{needs}
+use Rattle.ffi.proofs.secondcoop_read_job_number.Statement.{statement}
+use Rattle.ffi.proofs.secondcoop_read_job_number.Tie as tie
+use Rattle.ffi.proofs.secondcoop_read_job_number.Reads as reads
+use Rattle.ffi.proofs.secondcoop_read_job_number.Lts as lts
+use Rattle.ffi.proofs.of_read.Reads as of-read-reads
+use Rattle.leb128.proofs.read_job_number.Reads as read-job-number-reads
+
+-- src/lib.rt:55:24
+read-job-number-requires : tie.Need-read-job-number-requires
+read-job-number-requires c κs = search needs
+
+-- src/lib.rt:55:16
+of-read-requires : tie.Need-of-read-requires
+of-read-requires c κs = search needs
+
+-- src/lib.rt:51:1
+returns : tie.Need-returns
+returns c = c .of-read .ensures ∙ ap readFigures (c .before .read-job-number .ensures)
+
+pub secondcoop-read-job-number-spec : {M : Type 1} → statement M
+secondcoop-read-job-number-spec =
+    tie.close (tie.spec read-job-number-requires of-read-requires returns)

@@ -1,0 +1,44 @@
+-- `secondcoop_read_plan` meets its contract. Assumes nothing.
+use mathlib.Core.Path.{ap, _∙_}
+use Rattle.graph.specs.Lists.{tailOf, headOf, costOf, listAfter}
+use Rattle.ffi.specs.Figures.{planFigures}
+use borrow.Author.Needs.{needs}
+use Rattle.ffi.proofs.secondcoop_read_plan.Statement.{statement}
+use Rattle.ffi.proofs.secondcoop_read_plan.Tie as tie
+use Rattle.ffi.proofs.secondcoop_read_plan.Reads as reads
+use Rattle.ffi.proofs.secondcoop_read_plan.Lts as lts
+use Rattle.ffi.proofs.of_plan.Reads as of-plan-reads
+use Rattle.graph.proofs.read.read.Reads as read-reads
+
+-- src/lib.rt:89:24
+read-requires : tie.Need-read-requires
+read-requires c κs = search needs
+
+-- src/lib.rt:89:16
+of-plan-requires : tie.Need-of-plan-requires
+of-plan-requires c κs = search needs
+
+-- src/lib.rt:76:1
+same-length : tie.Need-same-length
+same-length c = search needs
+
+-- src/lib.rt:76:1
+same-length-2 : tie.Need-same-length-2
+same-length-2 c = search needs
+
+-- src/lib.rt:76:1
+same-length-3 : tie.Need-same-length-3
+same-length-3 c = search needs
+
+-- src/lib.rt:76:1
+returns : tie.Need-returns
+returns c =
+    let e = c .before .before .before .before .before .before .before .read .ensures in (
+      c .of-plan .ensures ∙ ap planFigures (e .0),
+      (e .1 .0 ∙ ap (listAfter tailOf _ _) (e .0), (e .1 .1 .0 ∙ ap (listAfter headOf _ _) (e .0), e .1 .1 .1 ∙ ap (listAfter costOf _ _) (e .0))),
+    )
+
+pub secondcoop-read-plan-spec : {M : Type 1} → statement M
+secondcoop-read-plan-spec =
+    tie.close
+    (tie.spec read-requires of-plan-requires same-length same-length-2 same-length-3 returns)

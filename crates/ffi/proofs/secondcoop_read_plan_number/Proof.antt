@@ -1,0 +1,26 @@
+-- `secondcoop_read_plan_number` meets its contract. Assumes nothing.
+use mathlib.Core.Path.{ap, _∙_}
+use Rattle.ffi.specs.Figures.{readFigures}
+use borrow.Author.Needs.{needs}
+use Rattle.ffi.proofs.secondcoop_read_plan_number.Statement.{statement}
+use Rattle.ffi.proofs.secondcoop_read_plan_number.Tie as tie
+use Rattle.ffi.proofs.secondcoop_read_plan_number.Reads as reads
+use Rattle.ffi.proofs.secondcoop_read_plan_number.Lts as lts
+use Rattle.ffi.proofs.of_read.Reads as of-read-reads
+use Rattle.leb128.proofs.read_plan_number.Reads as read-plan-number-reads
+
+-- src/lib.rt:47:24
+read-plan-number-requires : tie.Need-read-plan-number-requires
+read-plan-number-requires c κs = search needs
+
+-- src/lib.rt:47:16
+of-read-requires : tie.Need-of-read-requires
+of-read-requires c κs = search needs
+
+-- src/lib.rt:43:1
+returns : tie.Need-returns
+returns c = c .of-read .ensures ∙ ap readFigures (c .before .read-plan-number .ensures)
+
+pub secondcoop-read-plan-number-spec : {M : Type 1} → statement M
+secondcoop-read-plan-number-spec =
+    tie.close (tie.spec read-plan-number-requires of-read-requires returns)

@@ -1,0 +1,123 @@
+// Numbers and plans for programs in C and Rust: answers as four figures, over numbers and lent memory.
+ghost use mathlib.Core.Path.{_≡_};
+ghost use Rattle.leb128.specs.Number.{planGroups, jobGroups, read, writeAnswer, written};
+ghost use Rattle.graph.specs.Plan.{decode, sizes};
+ghost use Rattle.graph.specs.Lists.{tailOf, headOf, costOf, readAnswer, listAfter};
+ghost use Rattle.graph.specs.Lists as lists;
+ghost use Rattle.ffi.specs.Figures.{readFigures, writtenFigures, planFigures, countFigures};
+use graph::PlanRead;
+use graph::PlanWritten;
+use leb128::NumberRead;
+use leb128::NumberWritten;
+
+// The figures of a number that was read.
+fn of_read(read: NumberRead) -> [u64; 4]
+    ensures { λ r. ⌜ r ≡ readFigures read ⌝ }
+{
+    match read {
+        NumberRead::Value(value, next) => [0, 0, value as u64, next as u64],
+        NumberRead::Refused(p) => [1, p as u64, 0, 0],
+    }
+}
+
+// The figures of a number that was written.
+fn of_written(written: NumberWritten) -> [u64; 4]
+    ensures { λ r. ⌜ r ≡ writtenFigures written ⌝ }
+{
+    match written {
+        NumberWritten::Next(at) => [0, 0, at as u64, 0],
+        NumberWritten::TooLarge => [1, 0, 0, 0],
+        NumberWritten::NoRoom => [11, 0, 0, 0],
+    }
+}
+
+// The figures of a plan that was checked or read.
+fn of_plan(read: PlanRead) -> [u64; 4]
+    ensures { λ r. ⌜ r ≡ planFigures read ⌝ }
+{
+    match read {
+        PlanRead::Sizes(vertices, edges) => [0, 0, vertices as u64, edges as u64],
+        PlanRead::Refused(n, p) => [n as u64, p as u64, 0, 0],
+    }
+}
+
+// The figures of a plan that was written.
+fn of_count(written: PlanWritten) -> [u64; 4]
+    ensures { λ r. ⌜ r ≡ countFigures written ⌝ }
+{
+    match written {
+        PlanWritten::Count(count) => [0, 0, count as u64, 0],
+        PlanWritten::Rejected(n, p) => [n as u64, p as u64, 0, 0],
+    }
+}
+
+// The plan number at an offset.
+#[no_mangle]
+pub extern "C" fn secondcoop_read_plan_number(bytes: &[u8], at: usize, figures: &mut [u64; 4])
+    ensures { λ r. ⌜ now (figures .exit) ≡ readFigures (read planGroups (now (bytes .entry)) at) ⌝ }
+{
+    *figures = of_read(leb128::read_plan_number(bytes, at));
+}
+
+// The number of a bench job at an offset.
+#[no_mangle]
+pub extern "C" fn secondcoop_read_job_number(bytes: &[u8], at: usize, figures: &mut [u64; 4])
+    ensures { λ r. ⌜ now (figures .exit) ≡ readFigures (read jobGroups (now (bytes .entry)) at) ⌝ }
+{
+    *figures = of_read(leb128::read_job_number(bytes, at));
+}
+
+// A plan number written at an offset.
+#[no_mangle]
+pub extern "C" fn secondcoop_write_plan_number(
+    out: &mut [u8],
+    at: usize,
+    value: u32,
+    figures: &mut [u64; 4],
+)
+    ensures { λ r. ⌜ now (figures .exit) ≡ writtenFigures (writeAnswer planGroups (now (out .entry)) at value) ⌝ }
+    ensures { λ r. ⌜ now (out .exit) ≡ written planGroups (now (out .entry)) at value ⌝ }
+{
+    *figures = of_written(leb128::write_plan_number(out, at, value));
+}
+
+// A whole plan checked.
+#[no_mangle]
+pub extern "C" fn secondcoop_check_plan(bytes: &[u8], figures: &mut [u64; 4])
+    ensures { λ r. ⌜ now (figures .exit) ≡ planFigures (sizes (decode (now (bytes .entry)))) ⌝ }
+{
+    *figures = of_plan(graph::check::check(bytes));
+}
+
+// A plan read into three lists.
+#[no_mangle]
+pub extern "C" fn secondcoop_read_plan(
+    bytes: &[u8],
+    tails: &mut [u32],
+    heads: &mut [u32],
+    costs: &mut [u32],
+    figures: &mut [u64; 4],
+)
+    ensures { λ r. ⌜ now (figures .exit) ≡ planFigures (readAnswer (now (bytes .entry)) (now (tails .entry)) (now (heads .entry)) (now (costs .entry))) ⌝ }
+    ensures { λ r. ⌜ now (tails .exit) ≡ listAfter tailOf (now (bytes .entry)) (now (tails .entry)) (readAnswer (now (bytes .entry)) (now (tails .entry)) (now (heads .entry)) (now (costs .entry))) ⌝ }
+    ensures { λ r. ⌜ now (heads .exit) ≡ listAfter headOf (now (bytes .entry)) (now (heads .entry)) (readAnswer (now (bytes .entry)) (now (tails .entry)) (now (heads .entry)) (now (costs .entry))) ⌝ }
+    ensures { λ r. ⌜ now (costs .exit) ≡ listAfter costOf (now (bytes .entry)) (now (costs .entry)) (readAnswer (now (bytes .entry)) (now (tails .entry)) (now (heads .entry)) (now (costs .entry))) ⌝ }
+{
+    *figures = of_plan(graph::read::read(bytes, tails, heads, costs));
+}
+
+// A plan written from V and three lists.
+#[no_mangle]
+pub extern "C" fn secondcoop_write_plan(
+    vertices: u32,
+    tails: &[u32],
+    heads: &[u32],
+    costs: &[u32],
+    out: &mut [u8],
+    figures: &mut [u64; 4],
+)
+    ensures { λ r. ⌜ now (figures .exit) ≡ countFigures (lists.writeAnswer vertices (now (tails .entry)) (now (heads .entry)) (now (costs .entry)) (now (out .entry))) ⌝ }
+    ensures { λ r. ⌜ now (out .exit) ≡ lists.outAfter vertices (now (tails .entry)) (now (heads .entry)) (now (costs .entry)) (now (out .entry)) (lists.writeAnswer vertices (now (tails .entry)) (now (heads .entry)) (now (costs .entry)) (now (out .entry))) ⌝ }
+{
+    *figures = of_count(graph::write::write(vertices, tails, heads, costs, out));
+}

@@ -1,0 +1,205 @@
+//! Counting the rare events of searches, so that tests can require that
+//! they occurred.
+
+use crate::jobs::Job;
+use crate::planner::{Answer, Event};
+
+/// How often each event was met; see [`Events::names`].
+#[derive(Clone, Debug, Default, PartialEq, Eq)]
+pub struct Events {
+    /// Jobs counted.
+    pub jobs: u64,
+    /// A later round traced a cheaper walk.
+    pub cheaper_later: u64,
+    /// A later round traced a walk of equal cost.
+    pub equal_later: u64,
+    /// A later round traced another walk of equal cost.
+    pub equal_other_later: u64,
+    /// A later round traced a dearer walk.
+    pub dearer_later: u64,
+    /// A traced walk costs less than g(goal).
+    pub trace_below_goal: u64,
+    /// No route, with no vertex held.
+    pub no_route: u64,
+    /// No route, with vertices held.
+    pub no_route_held: u64,
+    /// The guide with the turn had no vertex to take, and the anchor filled
+    /// the turn.
+    pub no_line: u64,
+    /// The guide with the turn had a vertex, whose key was too great.
+    pub line_too_dear: u64,
+    /// A vertex was expanded twice in a round.
+    pub twice_in_round: u64,
+    /// A vertex that the anchor expanded in a round was expanded again in a
+    /// later round.
+    pub again_later: u64,
+    /// A round was cut before its first turn: round one.
+    pub cut_at_begin_of_first: u64,
+    /// A later round was cut before its first turn.
+    pub cut_at_begin_of_later: u64,
+    /// A round was cut one turn before it finished: round one.
+    pub cut_before_end_of_first: u64,
+    /// A later round was cut one turn before it finished.
+    pub cut_before_end_of_later: u64,
+    /// A round was cut elsewhere.
+    pub cut_inside: u64,
+    /// A search was cut one turn before it ended with no route.
+    pub cut_before_no_route: u64,
+    /// A round finished, or a search ended with no route, by its last turn
+    /// with the budget spent.
+    pub end_with_budget_spent: u64,
+    /// A round finished without a turn, the budget being spent.
+    pub finish_without_turn: u64,
+    /// Every round of the schedule finished.
+    pub all_rounds: u64,
+    /// Start is the goal.
+    pub start_is_goal: u64,
+    /// A walk of more than one vertex with the cost 0 was kept.
+    pub free_walk: u64,
+    /// The log memory was shorter than the turns.
+    pub log_full: u64,
+}
+
+impl Events {
+    /// All counts with their names.
+    pub fn names(&self) -> Vec<(&'static str, u64)> {
+        vec![
+            ("cheaper later", self.cheaper_later),
+            ("equal later", self.equal_later),
+            ("another equal later", self.equal_other_later),
+            ("dearer later", self.dearer_later),
+            ("trace below g(goal)", self.trace_below_goal),
+            ("no route", self.no_route),
+            ("no route with held", self.no_route_held),
+            ("empty guide line", self.no_line),
+            ("guide line too dear", self.line_too_dear),
+            ("twice in a round", self.twice_in_round),
+            ("again in a later round", self.again_later),
+            ("cut at first round's begin", self.cut_at_begin_of_first),
+            ("cut at later round's begin", self.cut_at_begin_of_later),
+            ("cut before first round's end", self.cut_before_end_of_first),
+            ("cut before later round's end", self.cut_before_end_of_later),
+            ("cut inside a round", self.cut_inside),
+            ("cut before no route", self.cut_before_no_route),
+            ("end with the budget spent", self.end_with_budget_spent),
+            ("finish without a turn", self.finish_without_turn),
+            ("all rounds finished", self.all_rounds),
+            ("start is goal", self.start_is_goal),
+            ("walk of cost 0", self.free_walk),
+            ("log full", self.log_full),
+        ]
+    }
+
+    /// Counts the events of one job.
+    pub fn count(&mut self, job: &Job) -> Answer {
+        let (answer, events) = job.events();
+        self.jobs += 1;
+        let mut turns_in_round = 0u32;
+        let mut in_round: Vec<u32> = Vec::new();
+        let mut by_anchor: Vec<u32> = Vec::new();
+        let mut by_anchor_before: Vec<u32> = Vec::new();
+        let mut kept_walk: Vec<u32> = Vec::new();
+        let (mut twice, mut again) = (false, false);
+        let (mut no_line, mut too_dear) = (false, false);
+        for event in &events {
+            match event {
+                Event::Begin { .. } => {
+                    turns_in_round = 0;
+                    in_round.clear();
+                    by_anchor_before.append(&mut by_anchor);
+                }
+                Event::Turn {
+                    table,
+                    vertex,
+                    no_line: empty,
+                    ..
+                } => {
+                    turns_in_round += 1;
+                    twice |= in_round.contains(vertex);
+                    again |= by_anchor_before.contains(vertex);
+                    in_round.push(*vertex);
+                    if *table == 0 {
+                        by_anchor.push(*vertex);
+                        no_line |= *empty;
+                        too_dear |= !*empty && job.guide_count > 0;
+                    }
+                }
+                Event::Finish {
+                    turns,
+                    goal_cost,
+                    traced,
+                    traced_cost,
+                    kept,
+                    ..
+                } => {
+                    self.trace_below_goal += u64::from(traced_cost < goal_cost);
+                    let spent = *turns == job.budget;
+                    self.end_with_budget_spent += u64::from(spent && turns_in_round > 0);
+                    self.finish_without_turn += u64::from(spent && turns_in_round == 0);
+                    match kept {
+                        Some(kept) if traced_cost == kept => {
+                            self.equal_later += 1;
+                            self.equal_other_later += u64::from(*traced != kept_walk);
+                        }
+                        Some(kept) if traced_cost > kept => self.dearer_later += 1,
+                        Some(_) => self.cheaper_later += 1,
+                        None => {}
+                    }
+                    if kept.is_none_or(|kept| *traced_cost < kept) {
+                        kept_walk = traced.clone();
+                    }
+                }
+                Event::Cut { round, turns } => {
+                    let mut longer = job.clone();
+                    longer.budget = turns + 1;
+                    let (_, events) = longer.events();
+                    let mut next = events.iter().filter_map(|event| match event {
+                        Event::Finish { round, turns, .. } => Some((*round, *turns, true)),
+                        Event::NoRoute { round, turns, .. } => Some((*round, *turns, false)),
+                        _ => None,
+                    });
+                    let finish = next.find(|&(other, end, _)| other == *round && end == turns + 1);
+                    let first = *round == 1;
+                    let before_end = finish.is_some_and(|(_, _, route)| route);
+                    let before_no_route = finish.is_some_and(|(_, _, route)| !route);
+                    let at_begin = turns_in_round == 0;
+                    self.cut_at_begin_of_first += u64::from(first && at_begin);
+                    self.cut_at_begin_of_later += u64::from(!first && at_begin);
+                    self.cut_before_end_of_first += u64::from(first && before_end);
+                    self.cut_before_end_of_later += u64::from(!first && before_end);
+                    self.cut_before_no_route += u64::from(before_no_route);
+                    self.cut_inside += u64::from(!at_begin && finish.is_none());
+                }
+                Event::NoRoute { turns, held, .. } => {
+                    self.no_route += u64::from(*held == 0);
+                    self.no_route_held += u64::from(*held > 0);
+                    self.end_with_budget_spent += u64::from(*turns == job.budget);
+                }
+            }
+        }
+        self.twice_in_round += u64::from(twice);
+        self.again_later += u64::from(again);
+        self.no_line += u64::from(no_line);
+        self.line_too_dear += u64::from(too_dear);
+        if let Answer::Route {
+            cost,
+            length,
+            rounds,
+            turns,
+            ..
+        } = answer
+        {
+            let asked = match job.schedule.len() {
+                0 => 6,
+                length => length / 2,
+            };
+            self.all_rounds += u64::from(rounds as usize == asked);
+            self.free_walk += u64::from(cost == 0 && length > 1);
+            self.log_full += u64::from(turns as usize > job.log_room);
+        }
+        if !matches!(answer, Answer::Refused { .. }) {
+            self.start_is_goal += u64::from(job.start == job.goal);
+        }
+        answer
+    }
+}

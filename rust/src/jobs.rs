@@ -1,0 +1,1020 @@
+//! Seeded jobs for the planner: tiny graphs, ladders, grids, zero costs,
+//! self-edges, hostile and constant sheets, budgets around the ends of
+//! rounds, start = goal, no walk to the goal, and jobs damaged for each
+//! refusal. Also running a job in guarded memory and counting rare events.
+
+use std::collections::BTreeMap;
+
+use crate::dijkstra;
+use crate::generate::{self, Plan};
+use crate::planner::{self, Answer, Event, Fault};
+use crate::random::Random;
+
+/// A planner call with the lengths of its lent memory.
+#[derive(Clone, Debug)]
+pub struct Job {
+    pub bytes: Vec<u8>,
+    pub start: u32,
+    pub goal: u32,
+    pub anchor: Vec<u32>,
+    pub guides: Vec<u32>,
+    pub guide_count: u32,
+    pub schedule: Vec<u32>,
+    pub budget: u32,
+    pub route_room: usize,
+    pub log_room: usize,
+    pub work_room: usize,
+}
+
+/// A call's answer and its whole lent memory, guards included.
+#[derive(Clone, Debug, PartialEq, Eq)]
+pub struct Outcome {
+    pub answer: Answer,
+    pub route: Vec<u32>,
+    pub log: Vec<u32>,
+    pub work: Vec<u32>,
+}
+
+/// Words of a known pattern before and after lent memory.
+pub const GUARD: usize = 8;
+
+/// A word that lent memory holds before a call, guards included; `memory` is
+/// 0 for route, 1 for log and 2 for work memory.
+pub fn pattern(salt: u64, memory: u32, index: usize) -> u32 {
+    (salt as u32)
+        .wrapping_mul(0x9E37_79B9)
+        .wrapping_add(memory.wrapping_mul(0x5851_F42D))
+        .wrapping_add((index as u32).wrapping_mul(0x0101_0107))
+}
+
+/// A planner call under comparison, as the arguments of [`planner::plan`].
+pub trait Planner {
+    fn plan(&self, job: &Job, route: &mut [u32], log: &mut [u32], work: &mut [u32]) -> Answer;
+}
+
+/// The second planner.
+pub struct SecondPlanner;
+
+impl Planner for SecondPlanner {
+    fn plan(&self, job: &Job, route: &mut [u32], log: &mut [u32], work: &mut [u32]) -> Answer {
+        job.observed(route, log, work, None, &mut |_| ())
+    }
+}
+
+/// The second planner with a fault.
+pub struct FaultyPlanner(pub Fault);
+
+impl Planner for FaultyPlanner {
+    fn plan(&self, job: &Job, route: &mut [u32], log: &mut [u32], work: &mut [u32]) -> Answer {
+        job.observed(route, log, work, Some(self.0), &mut |_| ())
+    }
+}
+
+impl Job {
+    /// A job on a valid plan with full room.
+    #[allow(clippy::too_many_arguments)]
+    pub fn new(
+        plan: &Plan,
+        start: u32,
+        goal: u32,
+        anchor: Vec<u32>,
+        guides: Vec<u32>,
+        guide_count: u32,
+        schedule: Vec<u32>,
+        budget: u32,
+    ) -> Job {
+        let vertices = plan.vertices as usize;
+        Job {
+            bytes: plan.bytes(),
+            start,
+            goal,
+            anchor,
+            guides,
+            guide_count,
+            schedule,
+            budget,
+            route_room: vertices,
+            log_room: 64,
+            work_room: 5 * vertices + 1 + 2 * plan.edges(),
+        }
+    }
+
+    /// The second planner's call with its events, with a fault if one is
+    /// wanted.
+    pub fn observed(
+        &self,
+        route: &mut [u32],
+        log: &mut [u32],
+        work: &mut [u32],
+        fault: Option<Fault>,
+        observe: &mut dyn FnMut(Event),
+    ) -> Answer {
+        planner::plan_observed(
+            &self.bytes,
+            self.start,
+            self.goal,
+            &self.anchor,
+            &self.guides,
+            self.guide_count,
+            &self.schedule,
+            self.budget,
+            route,
+            log,
+            work,
+            fault,
+            observe,
+        )
+    }
+
+    /// The second planner's answer and events, memory left aside.
+    pub fn events(&self) -> (Answer, Vec<Event>) {
+        let mut events = Vec::new();
+        let answer = self.observed(
+            &mut vec![0; self.route_room],
+            &mut [],
+            &mut vec![0; self.work_room],
+            None,
+            &mut |event| events.push(event),
+        );
+        (answer, events)
+    }
+
+    /// Runs the job in guarded memory filled with a pattern.
+    pub fn run(&self, planner: &dyn Planner, salt: u64) -> Outcome {
+        let memory = |number: u32, room: usize| -> Vec<u32> {
+            (0..room + 2 * GUARD)
+                .map(|index| pattern(salt, number, index))
+                .collect()
+        };
+        let mut route = memory(0, self.route_room);
+        let mut log = memory(1, self.log_room);
+        let mut work = memory(2, self.work_room);
+        let answer = planner.plan(
+            self,
+            &mut route[GUARD..GUARD + self.route_room],
+            &mut log[GUARD..GUARD + self.log_room],
+            &mut work[GUARD..GUARD + self.work_room],
+        );
+        Outcome {
+            answer,
+            route,
+            log,
+            work,
+        }
+    }
+
+    /// The job as the bench program's bytes.
+    pub fn bench_bytes(&self) -> Vec<u8> {
+        let mut bytes = Vec::new();
+        generate::push_number(&mut bytes, self.bytes.len() as u32);
+        bytes.extend(&self.bytes);
+        let rounds = self.schedule.len() as u32 / 2;
+        for number in [self.start, self.goal, self.budget, rounds] {
+            generate::push_number(&mut bytes, number);
+        }
+        for &factor in &self.schedule {
+            generate::push_number(&mut bytes, factor);
+        }
+        generate::push_number(&mut bytes, self.guide_count);
+        for &number in self.anchor.iter().chain(&self.guides) {
+            generate::push_number(&mut bytes, number);
+        }
+        bytes
+    }
+}
+
+/// A schedule that does not rise.
+pub fn random_schedule(random: &mut Random) -> Vec<u32> {
+    match random.below(12) {
+        0 => return Vec::new(),
+        1 => return vec![100, 100],
+        2 => return planner::HOUSE_SCHEDULE.to_vec(),
+        _ => {}
+    }
+    let rounds = match random.below(10) {
+        0 => 16,
+        1 => random.index(17),
+        _ => random.range(1, 4) as usize,
+    };
+    let most = random.pick(&[100, 130, 200, 300, 500, 1_000, 10_000]);
+    let mut factors = [Vec::new(), Vec::new()];
+    for list in &mut factors {
+        *list = (0..rounds).map(|_| random.range32(100, most)).collect();
+        if random.one_in(6) {
+            list.fill(random.range32(100, most));
+        }
+        list.sort_unstable_by(|left, right| right.cmp(left));
+        if rounds > 0 && random.one_in(3) {
+            list[rounds - 1] = 100;
+        }
+    }
+    let [w1, w2] = factors;
+    w1.into_iter()
+        .zip(w2)
+        .flat_map(|(w1, w2)| [w1, w2])
+        .collect()
+}
+
+/// A table that passes refusals 12 and 13.
+pub fn random_anchor(random: &mut Random, plan: &Plan, goal: u32) -> Vec<u32> {
+    let vertices = plan.vertices as usize;
+    let most = random.pick(&[3, 20, 1_000, 1_000_000, u32::MAX]);
+    let mut wish: Vec<u32> = match random.below(5) {
+        0 => vec![0; vertices],
+        1 => (0..vertices).map(|_| random.range32(0, most)).collect(),
+        2 => vec![most; vertices],
+        _ => vec![u32::MAX; vertices],
+    };
+    wish[goal as usize] = 0;
+    let mut table = dijkstra::consistent_table(plan, &wish);
+    if random.one_in(4) {
+        // A part of the table keeps the rule.
+        let part = random.range(1, 99);
+        for number in &mut table {
+            *number = (u64::from(*number) * part / 100) as u32;
+        }
+    }
+    table
+}
+
+/// A guide sheet of any sort, hostile ones included.
+pub fn random_sheet(random: &mut Random, plan: &Plan, goal: u32, anchor: &[u32]) -> Vec<u32> {
+    let vertices = plan.vertices as usize;
+    let most = random.pick(&[1, 3, 20, 1_000, u32::MAX]);
+    match random.below(9) {
+        0 => vec![0; vertices],
+        1 => vec![most; vertices],
+        2 => anchor.to_vec(),
+        // Distances, and what is far comes first.
+        kind @ (3 | 4) => dijkstra::distances_to(plan, goal)
+            .into_iter()
+            .map(|distance| {
+                let distance = distance.map_or(u32::MAX, |distance| distance as u32);
+                if kind == 3 {
+                    distance
+                } else {
+                    (u32::MAX - distance) % 10_007
+                }
+            })
+            .collect(),
+        // Everything but one vertex is dear.
+        5 => {
+            let mut sheet = vec![most; vertices];
+            sheet[random.index(vertices)] = 0;
+            sheet
+        }
+        _ => (0..vertices).map(|_| random.range32(0, most)).collect(),
+    }
+}
+
+/// How edges get their costs.
+fn cost(random: &mut Random, kind: u64) -> u32 {
+    match kind {
+        0 => 0,
+        1 => u32::from(random.one_in(2)),
+        2 | 3 => random.range32(0, 9),
+        4 => random.range32(0, 100),
+        _ => generate::random_cost(random),
+    }
+}
+
+/// The shape of a graph.
+#[derive(Clone, Copy, Debug, PartialEq, Eq)]
+pub enum Shape {
+    /// Up to six vertices, any edges, self-edges too.
+    Tiny,
+    /// A path with shortcuts and edges back.
+    Ladder,
+    /// A grid with edges both ways.
+    Grid,
+    /// Up to 40 vertices and few edges: often no walk to the goal.
+    Sparse,
+    /// Up to 12 vertices and many edges.
+    Dense,
+}
+
+pub const SHAPES: [Shape; 5] = [
+    Shape::Tiny,
+    Shape::Ladder,
+    Shape::Grid,
+    Shape::Sparse,
+    Shape::Dense,
+];
+
+/// A plan of a shape.
+pub fn random_graph(random: &mut Random, shape: Shape) -> Plan {
+    let kind = random.below(7);
+    let mut pairs: Vec<(u32, u32)> = Vec::new();
+    let vertices = match shape {
+        Shape::Tiny => random.range32(1, 6),
+        Shape::Ladder => random.range32(3, 14),
+        Shape::Grid => random.range32(2, 5),
+        Shape::Sparse => random.range32(2, 40),
+        Shape::Dense => random.range32(4, 12),
+    };
+    let vertices = match shape {
+        Shape::Tiny | Shape::Sparse | Shape::Dense => {
+            let most = vertices * vertices;
+            let edges = match shape {
+                Shape::Sparse => random.range32(0, vertices + vertices / 2),
+                Shape::Dense => random.range32(most / 3, most),
+                _ => random.range32(0, most.min(14)),
+            };
+            for _ in 0..edges {
+                pairs.push((
+                    random.range32(0, vertices - 1),
+                    random.range32(0, vertices - 1),
+                ));
+            }
+            vertices
+        }
+        Shape::Ladder => {
+            for vertex in 0..vertices {
+                for step in 1..=random.range32(1, 3) {
+                    if vertex + step < vertices {
+                        pairs.push((vertex, vertex + step));
+                    }
+                }
+                if vertex > 0 && random.one_in(4) {
+                    pairs.push((vertex, random.range32(0, vertex)));
+                }
+            }
+            vertices
+        }
+        Shape::Grid => {
+            let (width, height) = (vertices, random.range32(2, 5));
+            for y in 0..height {
+                for x in 0..width {
+                    let here = y * width + x;
+                    let mut both = |there| {
+                        if !random.one_in(8) {
+                            pairs.push((here, there));
+                        }
+                        if !random.one_in(8) {
+                            pairs.push((there, here));
+                        }
+                    };
+                    if x + 1 < width {
+                        both(here + 1);
+                    }
+                    if y + 1 < height {
+                        both(here + width);
+                    }
+                }
+            }
+            width * height
+        }
+    };
+    // Numbers of vertices in any order, except sometimes on ladders.
+    if shape != Shape::Ladder || random.one_in(2) {
+        let mut numbers: Vec<u32> = (0..vertices).collect();
+        for index in (1..numbers.len()).rev() {
+            numbers.swap(index, random.index(index + 1));
+        }
+        for (tail, head) in &mut pairs {
+            *tail = numbers[*tail as usize];
+            *head = numbers[*head as usize];
+        }
+    }
+    pairs.sort_unstable();
+    pairs.dedup();
+    Plan {
+        vertices,
+        tails: pairs.iter().map(|pair| pair.0).collect(),
+        heads: pairs.iter().map(|pair| pair.1).collect(),
+        costs: pairs.iter().map(|_| cost(random, kind)).collect(),
+    }
+}
+
+/// A job on a plan that no refusal meets, with a large budget.
+pub fn job_on(random: &mut Random, plan: &Plan) -> Job {
+    let start = random.range32(0, plan.vertices - 1);
+    let goal = if random.one_in(12) {
+        start
+    } else {
+        random.range32(0, plan.vertices - 1)
+    };
+    let anchor = random_anchor(random, plan, goal);
+    let guide_count = match random.below(8) {
+        0 => 0,
+        1 => random.range32(0, 8),
+        _ => random.range32(1, 2),
+    };
+    let guides = (0..guide_count)
+        .flat_map(|_| random_sheet(random, plan, goal, &anchor))
+        .collect();
+    let schedule = random_schedule(random);
+    let mut job = Job::new(
+        plan,
+        start,
+        goal,
+        anchor,
+        guides,
+        guide_count,
+        schedule,
+        u32::MAX,
+    );
+    match random.below(4) {
+        0 => job.log_room = random.index(5),
+        1 => job.log_room = 0,
+        _ => {}
+    }
+    if random.one_in(3) {
+        job.route_room += random.index(4);
+        job.work_room += random.index(4);
+    }
+    job
+}
+
+/// A valid job of a shape; its plan comes along.
+pub fn random_job(random: &mut Random, shape: Shape) -> (Plan, Job) {
+    let plan = random_graph(random, shape);
+    let job = job_on(random, &plan);
+    (plan, job)
+}
+
+/// Two lists of `rounds` factors from 100 to `most` that do not rise.
+fn falling_factors(random: &mut Random, rounds: usize, most: [u32; 2]) -> Vec<u32> {
+    let mut lists =
+        most.map(|most| -> Vec<u32> { (0..rounds).map(|_| random.range32(100, most)).collect() });
+    for list in &mut lists {
+        list.sort_unstable_by(|left, right| right.cmp(left));
+    }
+    (0..2 * rounds)
+        .map(|index| lists[index % 2][index / 2])
+        .collect()
+}
+
+/// A plan from edges (tail, head, cost), of each pair the last, with the
+/// vertices renumbered at random; gives the new numbers too.
+fn renumbered(random: &mut Random, vertices: u32, edges: &[(u32, u32, u32)]) -> (Plan, Vec<u32>) {
+    let mut numbers: Vec<u32> = (0..vertices).collect();
+    if random.one_in(2) {
+        for index in (1..numbers.len()).rev() {
+            numbers.swap(index, random.index(index + 1));
+        }
+    }
+    let edges: BTreeMap<(u32, u32), u32> = edges
+        .iter()
+        .map(|&(tail, head, cost)| ((numbers[tail as usize], numbers[head as usize]), cost))
+        .collect();
+    let plan = Plan {
+        vertices,
+        tails: edges.keys().map(|pair| pair.0).collect(),
+        heads: edges.keys().map(|pair| pair.1).collect(),
+        costs: edges.values().copied().collect(),
+    };
+    (plan, numbers)
+}
+
+/// A job whose guides lead astray: a few vertices, edges mostly one after
+/// another, sheets of small numbers, factors that come down over a few
+/// rounds.
+pub fn twisted_job(random: &mut Random) -> (Plan, Job) {
+    let vertices = random.range32(4, 9);
+    let (start, goal) = (0, vertices - 1);
+    let most_cost = random.pick(&[3, 10, 30]);
+    let mut edges = Vec::new();
+    for tail in 0..vertices {
+        for head in 0..vertices {
+            let wanted = match (tail, head) {
+                _ if tail == head => random.one_in(20),
+                _ if head == tail + 1 => !random.one_in(8),
+                _ if tail == start && head == goal => random.one_in(6),
+                _ if tail < head => random.one_in(2),
+                _ => random.one_in(5),
+            };
+            if wanted {
+                // A longer step costs more, often more than it saves.
+                let step = tail.abs_diff(head);
+                let cost = random.range32(0, most_cost) + step * random.range32(0, most_cost);
+                edges.push((tail, head, cost));
+            }
+        }
+    }
+    let (plan, numbers) = renumbered(random, vertices, &edges);
+    let (start, goal) = (numbers[start as usize], numbers[goal as usize]);
+    let mut wish = vec![4_000_000; vertices as usize];
+    wish[goal as usize] = 0;
+    let mut anchor = dijkstra::consistent_table(&plan, &wish);
+    let part = random.pick(&[0, 30, 60, 100]);
+    for number in &mut anchor {
+        *number = *number * part / 100;
+    }
+    let guide_count = random.range32(1, 3);
+    let most = random.pick(&[0, 5, 20, 60]);
+    let guides = (0..guide_count * vertices)
+        .map(|_| random.range32(0, most))
+        .collect();
+    let rounds = random.range(1, 5) as usize;
+    let most = random.pick(&[200, 400, 1_000]);
+    let schedule = falling_factors(random, rounds, [most; 2]);
+    let job = Job::new(
+        &plan,
+        start,
+        goal,
+        anchor,
+        guides,
+        guide_count,
+        schedule,
+        u32::MAX,
+    );
+    (plan, job)
+}
+
+/// A job on a graph with a detour: the dear way to a vertex is taken first,
+/// the cheap way found later, so that predecessors trace a walk cheaper than
+/// g(goal); a second way to the goal competes in the next round. Some jobs
+/// follow that script to the letter, others stray from it in some numbers.
+pub fn detour_job(random: &mut Random) -> (Plan, Job) {
+    // 0 start, 1 the vertex with two ways, 2 on its cheap way, 3 the second
+    // way, 4 goal; then vertices that hang on to these.
+    let more = if random.one_in(2) {
+        0
+    } else {
+        random.range32(1, 3)
+    };
+    let vertices = 5 + more;
+    let mut edges = vec![
+        (0, 1, 10),
+        (0, 2, 1),
+        (2, 1, 5),
+        (1, 4, 2),
+        (0, 3, 6),
+        (3, 4, random.range32(0, 6)),
+    ];
+    let stray = random.pick(&[0, 1, 2, 4]);
+    for _ in 0..stray {
+        let edge = random.index(edges.len());
+        let cost = &mut edges[edge].2;
+        *cost = random.range32(cost.saturating_sub(3), *cost + 3);
+    }
+    for vertex in 5..vertices {
+        let other = random.range32(0, vertices - 1);
+        edges.push((other, vertex, random.range32(0, 12)));
+        if random.one_in(2) {
+            let other = random.range32(0, vertices - 1);
+            edges.push((vertex, other, random.range32(0, 12)));
+        }
+    }
+    if random.one_in(6) {
+        // No walk to the goal.
+        edges.retain(|edge| edge.1 != 4);
+    }
+    let (plan, numbers) = renumbered(random, vertices, &edges);
+    let (start, goal) = (numbers[0], numbers[4]);
+    let anchor = if random.one_in(3) {
+        random_anchor(random, &plan, goal)
+    } else {
+        vec![0; vertices as usize]
+    };
+    let mut sheets = [vec![9; vertices as usize], vec![9; vertices as usize]];
+    for (vertex, number) in [(0, 0), (1, 5), (2, 0), (3, 0), (4, 9)] {
+        sheets[0][numbers[vertex] as usize] = number;
+    }
+    for (vertex, number) in [(0, 0), (1, 0), (2, 9), (3, 9), (4, 9)] {
+        sheets[1][numbers[vertex] as usize] = number;
+    }
+    for _ in 0..stray {
+        let sheet = random.index(2);
+        sheets[sheet][random.index(vertices as usize)] = random.range32(0, 9);
+    }
+    let mut schedule = vec![
+        random.range32(300, 1_000),
+        1_000 + random.range32(0, 150),
+        random.range32(100, 300),
+        random.range32(120, 199),
+    ];
+    for _ in 0..random.index(3) {
+        let last = schedule.len() - 2;
+        let next = [
+            random.range32(100, schedule[last]),
+            random.range32(100, schedule[last + 1]),
+        ];
+        schedule.extend(next);
+    }
+    let job = Job::new(
+        &plan,
+        start,
+        goal,
+        anchor,
+        sheets.concat(),
+        2,
+        schedule,
+        u32::MAX,
+    );
+    (plan, job)
+}
+
+/// A job whose anchor table is steep and counts for much: the anchor expands
+/// vertices whose cost falls later, and holds them.
+pub fn steep_job(random: &mut Random) -> (Plan, Job) {
+    let vertices = random.range32(4, 10);
+    let most_cost = random.pick(&[9, 30, 90]);
+    let mut edges = Vec::new();
+    for tail in 0..vertices {
+        for head in 0..vertices {
+            if random.one_in(3) && (tail, head) != (0, 1) {
+                edges.push((tail, head, random.range32(0, most_cost)));
+            }
+        }
+    }
+    if random.one_in(4) {
+        // No walk to the goal.
+        edges.retain(|edge| edge.1 != 1);
+    }
+    let (plan, numbers) = renumbered(random, vertices, &edges);
+    let (start, goal) = (numbers[0], numbers[1]);
+    let most = most_cost * random.range32(1, 5);
+    let mut wish: Vec<u32> = (0..vertices).map(|_| random.range32(0, most)).collect();
+    wish[goal as usize] = 0;
+    let anchor = dijkstra::consistent_table(&plan, &wish);
+    let guide_count = random.range32(0, 2);
+    let guides = (0..guide_count)
+        .flat_map(|_| {
+            let hostile = random.one_in(2);
+            let number = random.range32(0, most);
+            (0..vertices)
+                .map(|_| match hostile {
+                    true => u32::MAX,
+                    false => random.range32(0, number),
+                })
+                .collect::<Vec<u32>>()
+        })
+        .collect();
+    let rounds = random.range(1, 5) as usize;
+    let most = [
+        random.pick(&[300, 1_000, 10_000]),
+        random.pick(&[100, 150, 400]),
+    ];
+    let schedule = falling_factors(random, rounds, most);
+    let job = Job::new(
+        &plan,
+        start,
+        goal,
+        anchor,
+        guides,
+        guide_count,
+        schedule,
+        u32::MAX,
+    );
+    (plan, job)
+}
+
+/// The turns after which rounds end, with a budget that never runs out.
+pub fn ends_of_rounds(job: &Job) -> Vec<u32> {
+    let mut job = job.clone();
+    job.budget = u32::MAX;
+    let (_, events) = job.events();
+    events
+        .into_iter()
+        .filter_map(|event| match event {
+            Event::Finish { turns, .. } | Event::NoRoute { turns, .. } => Some(turns),
+            _ => None,
+        })
+        .collect()
+}
+
+/// Valid jobs of all shapes: each with a budget that never runs out and with
+/// budgets at, before and after the ends of its rounds.
+pub fn valid_jobs(seed: u64, count: usize, sink: &mut dyn FnMut(&Plan, &Job)) {
+    let mut random = Random::new(seed);
+    for _ in 0..count {
+        let (plan, mut job) = match random.below(6) {
+            0 => twisted_job(&mut random),
+            1 => detour_job(&mut random),
+            2 => steep_job(&mut random),
+            _ => {
+                let shape = random.pick(&SHAPES);
+                random_job(&mut random, shape)
+            }
+        };
+        sink(&plan, &job);
+        let mut budgets = Vec::new();
+        for end in ends_of_rounds(&job) {
+            budgets.extend([end.saturating_sub(1), end, end + 1]);
+        }
+        budgets.extend([0, 1]);
+        if let Some(&last) = budgets.iter().max() {
+            budgets.push(random.range32(0, last));
+        }
+        budgets.sort_unstable();
+        budgets.dedup();
+        if budgets.len() > 6 {
+            for _ in 0..budgets.len() - 6 {
+                budgets.remove(random.index(budgets.len()));
+            }
+        }
+        for budget in budgets {
+            job.budget = budget;
+            sink(&plan, &job);
+        }
+    }
+}
+
+/// Damages a valid job so that it gets refusal `number` (1 to 13); the
+/// position that its making decides. `None` if this job cannot be damaged so.
+pub fn damage_job(random: &mut Random, plan: &Plan, job: &mut Job, number: u32) -> Option<usize> {
+    let vertices = plan.vertices;
+    match number {
+        1..=7 => {
+            for _ in 0..200 {
+                let (bytes, figures, _) = generate::damage(random, plan);
+                if figures[0] == u64::from(number) {
+                    job.bytes = bytes;
+                    return Some(figures[1] as usize);
+                }
+            }
+            return None;
+        }
+        8 => {
+            let outside = if random.one_in(2) {
+                vertices
+            } else {
+                random.range32(vertices, u32::MAX)
+            };
+            if random.one_in(2) {
+                job.start = outside;
+            } else {
+                job.goal = outside;
+            }
+        }
+        9 => match random.below(6) {
+            0 => {
+                job.guide_count = 9;
+                job.guides = vec![0; 9 * vertices as usize];
+            }
+            1 => job.guide_count = random.range32(9, u32::MAX),
+            2 => job.anchor.push(0),
+            3 => drop(job.anchor.pop()),
+            4 => job.guides.push(0),
+            _ => {
+                if job.guides.pop().is_none() {
+                    job.guides.push(1);
+                }
+            }
+        },
+        10 => match random.below(6) {
+            0 => job.schedule = vec![100; 34],
+            1 => {
+                if job.schedule.pop().is_none() {
+                    job.schedule.push(100);
+                }
+            }
+            2 if !job.schedule.is_empty() => {
+                let index = random.index(job.schedule.len());
+                job.schedule[index] = random.pick(&[0, 1, 99, 10_001, 20_000, u32::MAX]);
+            }
+            3 => job.schedule = vec![200, 200, 200, 201],
+            4 => job.schedule = vec![200, 200, 201, 200],
+            _ => job.schedule = vec![300, 300, 100, 100, 101, 100],
+        },
+        11 => {
+            if random.one_in(2) {
+                job.route_room = random.index(vertices as usize);
+            } else {
+                let needed = 5 * vertices as usize + 1 + 2 * plan.edges();
+                job.work_room = if random.one_in(2) {
+                    needed - 1
+                } else {
+                    random.index(needed)
+                };
+            }
+        }
+        12 => job.anchor[job.goal as usize] = random.pick(&[1, 2, 500, u32::MAX]),
+        13 => {
+            // Raise the table at one tail past the rule of one of its edges.
+            let breakable: Vec<usize> = (0..plan.edges())
+                .filter(|&edge| {
+                    let (tail, head) = (plan.tails[edge], plan.heads[edge]);
+                    let least =
+                        u64::from(plan.costs[edge]) + u64::from(job.anchor[head as usize]) + 1;
+                    tail != head && tail != job.goal && least <= u64::from(u32::MAX)
+                })
+                .collect();
+            if breakable.is_empty() {
+                return None;
+            }
+            let edge = random.pick(&breakable);
+            let (tail, head) = (plan.tails[edge] as usize, plan.heads[edge] as usize);
+            let least = plan.costs[edge] + job.anchor[head] + 1;
+            job.anchor[tail] = if random.one_in(2) {
+                least
+            } else {
+                random.range32(least, u32::MAX)
+            };
+            // The first broken edge counts.
+            let first = (0..plan.edges()).find(|&edge| {
+                let (tail, head) = (plan.tails[edge] as usize, plan.heads[edge] as usize);
+                u64::from(job.anchor[tail])
+                    > u64::from(plan.costs[edge]) + u64::from(job.anchor[head])
+            });
+            return first;
+        }
+        _ => return None,
+    }
+    Some(0)
+}
+
+/// Jobs damaged for one refusal each, and sometimes for a later one as well,
+/// which must not count.
+pub fn damaged_jobs(seed: u64, count: usize, sink: &mut dyn FnMut(&Job, Answer)) {
+    let mut random = Random::new(seed);
+    for index in 0..count {
+        let number = index as u32 % 13 + 1;
+        let shape = random.pick(&SHAPES);
+        let (plan, mut job) = random_job(&mut random, shape);
+        // A later fault is done first and must not count.
+        if number < 12 && random.one_in(3) {
+            let later = random.range32(number.max(7) + 1, 12);
+            damage_job(&mut random, &plan, &mut job, later);
+        }
+        let Some(position) = damage_job(&mut random, &plan, &mut job, number) else {
+            continue;
+        };
+        sink(&job, Answer::Refused { number, position });
+    }
+}
+
+/// A fault of form in a bench job's bytes: each gets refusal 14 at 0, if no
+/// earlier row of the table counts.
+pub fn damage_bench(random: &mut Random, plan: &Plan, job: &Job) -> Vec<u8> {
+    let mut bytes = job.bench_bytes();
+    let head = {
+        let mut length = Vec::new();
+        generate::push_number(&mut length, job.bytes.len() as u32);
+        length.len() + job.bytes.len()
+    };
+    match random.below(9) {
+        // The bytes end early, anywhere.
+        0 => bytes.truncate(random.index(bytes.len())),
+        // Bytes left over.
+        1 => bytes.push(random.byte()),
+        // A number after the plan that is not shortest.
+        2 => {
+            let ends: Vec<usize> = (head..bytes.len()).filter(|&at| bytes[at] < 128).collect();
+            let at = random.pick(&ends);
+            bytes[at] += 128;
+            bytes.insert(at + 1, 0);
+        }
+        // The plan's length is not shortest, or too large.
+        3 => {
+            bytes.drain(..head - job.bytes.len());
+            let mut length = Vec::new();
+            if random.one_in(2) {
+                let least = bytes.len() as u32 + 1;
+                let value = random.range32(least, u32::MAX);
+                generate::push_number(&mut length, value);
+            } else {
+                generate::push_number(&mut length, job.bytes.len() as u32);
+                *length.last_mut().unwrap() += 128;
+                length.push(0);
+            }
+            bytes.splice(0..0, length);
+        }
+        // Too many rounds or guides.
+        4 => {
+            let mut other = job.clone();
+            if random.one_in(2) {
+                other.schedule = vec![100; 34];
+            } else {
+                other.guide_count = random.range32(9, 20);
+                other.guides = vec![0; (other.guide_count * plan.vertices) as usize];
+            }
+            bytes = other.bench_bytes();
+        }
+        // A number over 32 bits or of six groups.
+        5 | 6 => {
+            let mut other = job.clone();
+            other.budget = u32::MAX;
+            bytes = other.bench_bytes();
+            let most = [0xFF, 0xFF, 0xFF, 0xFF, 0x0F];
+            let at = (head..bytes.len())
+                .find(|&at| bytes[at..].starts_with(&most))
+                .expect("the budget stands after the plan");
+            if random.one_in(2) {
+                bytes[at + 4] += 0x10 << random.below(3);
+            } else {
+                bytes[at + 4] += 128;
+                bytes.insert(at + 5, random.range(0, 1) as u8);
+            }
+        }
+        // Over 32,768 bytes.
+        7 => bytes.resize(planner::MOST_JOB_BYTES + 1 + random.index(3), 0),
+        // Too many vertices or edges.
+        _ => {
+            let vertices = random.pick(&[257, 300, 4_096]);
+            let edges = if random.one_in(2) { 5 } else { 2_049 };
+            let plan = if random.one_in(2) {
+                generate::random_plan(random, vertices, edges)
+            } else {
+                generate::random_plan(random, 256, 2_049)
+            };
+            let anchor = vec![0; plan.vertices as usize];
+            bytes = Job::new(&plan, 0, 0, anchor, vec![], 0, vec![], 9).bench_bytes();
+        }
+    }
+    bytes
+}
+
+/// Jobs at the limits: many vertices, many edges, costs whose sums come near
+/// 32 bits, tables of the greatest numbers, eight guides, sixteen rounds.
+pub fn large_jobs(seed: u64, sink: &mut dyn FnMut(&Plan, &Job)) {
+    let mut random = Random::new(seed);
+    // One path through all vertices, each edge of the greatest cost.
+    let path = Plan {
+        vertices: 4_096,
+        tails: (0..4_095).collect(),
+        heads: (1..4_096).collect(),
+        costs: vec![1_000_000; 4_095],
+    };
+    let to_goal: Vec<u32> = (0..4_096)
+        .map(|vertex| (4_095 - vertex) * 1_000_000)
+        .collect();
+    let greatest = vec![u32::MAX; 4_096];
+    for (anchor, guides, guide_count, schedule) in [
+        (vec![0; 4_096], vec![], 0, vec![100, 100]),
+        (to_goal.clone(), greatest.clone(), 1, vec![10_000, 10_000]),
+        (to_goal, vec![0; 4_096], 1, vec![10_000, 10_000, 100, 100]),
+        (vec![0; 4_096], greatest, 1, vec![10_000, 100]),
+    ] {
+        let mut job = Job::new(
+            &path,
+            0,
+            4_095,
+            anchor,
+            guides,
+            guide_count,
+            schedule,
+            u32::MAX,
+        );
+        job.log_room = 4_000;
+        sink(&path, &job);
+    }
+    // Sixteen rounds and eight guides on the largest bench plan.
+    let mut bench = generate::random_plan(&mut random, 256, 2_048);
+    bench.costs.fill_with(|| random.range32(0, 99));
+    for _ in 0..3 {
+        let mut job = job_on(&mut random, &bench);
+        job.guide_count = 8;
+        let sheets = (0..8).map(|_| random_sheet(&mut random, &bench, job.goal, &job.anchor));
+        job.guides = sheets.collect::<Vec<_>>().concat();
+        job.schedule = falling_factors(&mut random, 16, [1_000, 1_000]);
+        job.log_room = 8_192;
+        sink(&bench, &job);
+    }
+    // All vertices and all edges that a plan may have.
+    let most = generate::random_plan(&mut random, 4_096, 32_768);
+    for _ in 0..2 {
+        let mut job = job_on(&mut random, &most);
+        job.schedule = vec![300, 300, 150, 150];
+        job.log_room = 9_000;
+        sink(&most, &job);
+    }
+}
+
+/// Bytes for the bench program with the text that their making decides:
+/// valid jobs, jobs damaged for each refusal that can be met there, changed
+/// and random bytes.
+pub fn bench_jobs(seed: u64, count: usize, sink: &mut dyn FnMut(&[u8], Option<String>)) {
+    let mut random = Random::new(seed);
+    let refused = |number: u32, position: usize| Some(format!("refused {number} at {position}\n"));
+    let mut turn = 0;
+    valid_jobs(seed ^ 0xB5, count, &mut |plan, job| {
+        turn += 1;
+        let mut job = job.clone();
+        match turn % 5 {
+            0 => sink(&damage_bench(&mut random, plan, &job), refused(14, 0)),
+            1 => {
+                let number = random.pick(&[1, 2, 3, 4, 5, 6, 7, 8, 10, 12, 13]);
+                let Some(position) = damage_job(&mut random, plan, &mut job, number) else {
+                    return;
+                };
+                // An odd schedule cannot be written as a bench job, and one
+                // that is too long is refused as 14.
+                if job.schedule.len() % 2 == 0 && job.schedule.len() <= 32 {
+                    sink(&job.bench_bytes(), refused(number, position));
+                }
+            }
+            2 => {
+                let mut bytes = job.bench_bytes();
+                for _ in 0..random.range(1, 2) {
+                    let at = random.index(bytes.len());
+                    match random.below(4) {
+                        0 => bytes[at] ^= 1 << random.below(8),
+                        1 => bytes[at] = random.byte(),
+                        2 if bytes.len() > 1 => drop(bytes.remove(at)),
+                        _ => bytes.insert(at, bytes[at]),
+                    }
+                }
+                sink(&bytes, None);
+            }
+            3 if random.one_in(4) => {
+                let length = random.index(40);
+                let bytes: Vec<u8> = (0..length).map(|_| random.byte() % 6).collect();
+                sink(&bytes, None);
+            }
+            _ => sink(&job.bench_bytes(), None),
+        }
+    });
+}

@@ -1,0 +1,118 @@
+//! The second planner's text for the bench program on seeded jobs.
+
+use secondcoop_tests::jobs::{self, SecondPlanner, GUARD};
+use secondcoop_tests::planner::{self, Answer};
+
+/// The kind of a text: a refusal's number, or 20 for a route, 21 for no
+/// route, 22 for unfinished.
+fn kind(text: &str) -> usize {
+    let last = text.lines().last().expect("a text has a line");
+    let words: Vec<&str> = last.split(' ').collect();
+    match words[..] {
+        ["refused", number, "at", _] => number.parse().unwrap(),
+        ["end", "cost", _, "rounds", _, "turns", _, "bound", _] => 20,
+        ["no", "route", "turns", _] => 21,
+        ["unfinished", "turns", _] => 22,
+        _ => panic!("{last}"),
+    }
+}
+
+#[test]
+fn every_ending_and_refusal_is_met() {
+    let mut counts = [0; 23];
+    jobs::bench_jobs(61, 6_000, &mut |bytes, known| {
+        let text = planner::bench_text(bytes);
+        if let Some(known) = known {
+            assert_eq!(text, known, "{bytes:02X?}");
+        }
+        assert!(text.ends_with('\n') && !text.contains("\n\n"));
+        counts[kind(&text)] += 1;
+    });
+    for (kind, &count) in counts.iter().enumerate() {
+        match kind {
+            // The bench program's job has tables of V numbers and memory.
+            0 | 9 | 11 | 15..=19 => assert_eq!(count, 0, "kind {kind}"),
+            _ => assert!(count >= 100, "kind {kind}: {count}"),
+        }
+    }
+}
+
+/// The text of a valid job says what the call hands over.
+#[test]
+fn the_text_and_the_call_agree() {
+    let mut count = 0;
+    jobs::valid_jobs(62, 1_000, &mut |plan, job| {
+        let mut job = job.clone();
+        job.log_room = planner::BENCH_LOG;
+        let outcome = job.run(&SecondPlanner, count);
+        let text = planner::bench_text(&job.bench_bytes());
+        let lines: Vec<&str> = text.lines().collect();
+        let (turns, ending) = match outcome.answer {
+            Answer::Route {
+                cost,
+                length,
+                rounds,
+                turns,
+                bound,
+            } => {
+                assert!(length <= plan.vertices);
+                let route = &outcome.route[GUARD..GUARD + length as usize];
+                let places: Vec<String> = route.iter().map(u32::to_string).collect();
+                let ending = vec![
+                    format!("route {}", places.join(" ")),
+                    format!("end cost {cost} rounds {rounds} turns {turns} bound {bound}"),
+                ];
+                (turns, ending)
+            }
+            Answer::NoRoute { turns } => (turns, vec![format!("no route turns {turns}")]),
+            Answer::Unfinished { turns } => (turns, vec![format!("unfinished turns {turns}")]),
+            Answer::Refused { .. } => panic!("a valid job is refused"),
+        };
+        assert_eq!(lines[turns as usize..], ending);
+        for (index, line) in lines[..turns as usize].iter().enumerate() {
+            let word = outcome.log[GUARD + index];
+            let (table, vertex) = (word >> 16, word & 0xFFFF);
+            assert_eq!(
+                *line,
+                format!("turn {} table {table} place {vertex}", index + 1)
+            );
+        }
+        count += 1;
+    });
+    assert!(count >= 3_000);
+}
+
+/// 32,768 bytes are read, 32,769 are not.
+#[test]
+fn the_limit_of_job_bytes() {
+    let plan = secondcoop_tests::generate::Plan {
+        vertices: 256,
+        tails: vec![],
+        heads: vec![],
+        costs: vec![],
+    };
+    // Sheets of numbers in five groups: 256 × 8 × 5 bytes.
+    let job = jobs::Job::new(
+        &plan,
+        0,
+        1,
+        vec![0; 256],
+        vec![u32::MAX; 8 * 256],
+        8,
+        vec![],
+        1,
+    );
+    let mut bytes = job.bench_bytes();
+    assert_eq!(
+        planner::bench_text(&bytes),
+        "turn 1 table 0 place 0\nno route turns 1\n"
+    );
+    bytes.resize(32_768, 0);
+    // The fault of the plan counts before the bytes left over, but not
+    // before a job that is too long.
+    bytes[2] = 0x80;
+    bytes[3] = 0x00;
+    assert_eq!(planner::bench_text(&bytes), "refused 1 at 0\n");
+    bytes.push(0);
+    assert_eq!(planner::bench_text(&bytes), "refused 14 at 0\n");
+}

@@ -1,0 +1,272 @@
+//! The second planner on seeded jobs: demand 3 and the properties that an
+//! independent Dijkstra search decides.
+
+use secondcoop_tests::dijkstra;
+use secondcoop_tests::events::Events;
+use secondcoop_tests::generate::Plan;
+use secondcoop_tests::jobs::{self, Job, SecondPlanner, GUARD};
+use secondcoop_tests::planner::{self, Answer, Event, NONE};
+use secondcoop_tests::random::Random;
+
+/// The sum of a walk's edges; each must be an edge of the plan.
+fn walk_cost(plan: &Plan, walk: &[u32]) -> u64 {
+    walk.windows(2)
+        .map(|pair| {
+            let edge = (0..plan.edges())
+                .find(|&edge| plan.tails[edge] == pair[0] && plan.heads[edge] == pair[1])
+                .expect("a route follows edges");
+            u64::from(plan.costs[edge])
+        })
+        .sum()
+}
+
+/// What the checks below met.
+#[derive(Default)]
+struct Met {
+    routes: u64,
+    optimal_rounds: u64,
+    no_routes: u64,
+    unfinished: u64,
+    twice: u64,
+}
+
+/// One valid job: answer, route, bound and the expansions of demand 3.
+fn check(plan: &Plan, job: &Job, met: &mut Met) {
+    let outcome = job.run(&SecondPlanner, 5);
+    let (answer, events) = job.events();
+    assert_eq!(answer, outcome.answer);
+    let least = dijkstra::distances_from(plan, job.start)[job.goal as usize];
+    let vertices = plan.vertices as usize;
+    let untouched: Vec<u32> = (0..outcome.route.len())
+        .map(|index| jobs::pattern(5, 0, index))
+        .collect();
+    let turns = match answer {
+        Answer::Route {
+            cost,
+            length,
+            rounds,
+            turns,
+            bound,
+        } => {
+            met.routes += 1;
+            let least = least.expect("a route is given only where there is one");
+            let route = &outcome.route[GUARD..GUARD + vertices];
+            let (walk, rest) = route.split_at(length as usize);
+            assert_eq!((walk[0], walk[walk.len() - 1]), (job.start, job.goal));
+            assert_eq!(walk_cost(plan, walk), u64::from(cost));
+            assert!(rest.iter().all(|&word| word == NONE));
+            assert_eq!(
+                outcome.route[GUARD + vertices..],
+                untouched[GUARD + vertices..]
+            );
+            assert_eq!(outcome.route[..GUARD], untouched[..GUARD]);
+            let schedule = match job.schedule.len() {
+                0 => &planner::HOUSE_SCHEDULE,
+                _ => &job.schedule[..],
+            };
+            let last = rounds as usize - 1;
+            assert_eq!(bound, schedule[2 * last] * schedule[2 * last + 1]);
+            assert!(10_000 * u64::from(cost) <= u64::from(bound) * least);
+            if bound == 10_000 {
+                met.optimal_rounds += 1;
+                assert_eq!(u64::from(cost), least);
+            }
+            assert!(rounds as usize <= schedule.len() / 2);
+            // Fewer rounds only where the budget ran out.
+            assert!(rounds as usize == schedule.len() / 2 || turns == job.budget);
+            turns
+        }
+        Answer::NoRoute { turns } => {
+            met.no_routes += 1;
+            assert_eq!(least, None);
+            assert_eq!(outcome.route, untouched);
+            turns
+        }
+        Answer::Unfinished { turns } => {
+            met.unfinished += 1;
+            assert_eq!(turns, job.budget);
+            assert_eq!(outcome.route, untouched);
+            turns
+        }
+        Answer::Refused { .. } => panic!("a valid job is refused: {answer:?}, {job:?}"),
+    };
+    assert!(turns <= job.budget);
+
+    // Demand 3: in a round a vertex is expanded at most once for the guides
+    // and at most once for the anchor, for the guides first, and its cost
+    // fell in between. A vertex is never expanded twice at one cost.
+    let mut for_guides: Vec<Option<u32>> = vec![None; vertices];
+    let mut for_anchor: Vec<Option<u32>> = vec![None; vertices];
+    let mut before: Vec<Option<u32>> = vec![None; vertices];
+    let mut count = 0;
+    for event in &events {
+        match *event {
+            Event::Begin { .. } => {
+                for_guides.fill(None);
+                for_anchor.fill(None);
+            }
+            Event::Turn {
+                turn,
+                table,
+                vertex,
+                g,
+                ..
+            } => {
+                count += 1;
+                assert_eq!(turn, count);
+                if (turn as usize) <= job.log_room {
+                    let word = outcome.log[GUARD + turn as usize - 1];
+                    assert_eq!(word, vertex + 65_536 * table);
+                }
+                let vertex = vertex as usize;
+                assert!(table <= job.guide_count);
+                assert_eq!(for_anchor[vertex], None);
+                if table == 0 {
+                    for_anchor[vertex] = Some(g);
+                    if let Some(first) = for_guides[vertex] {
+                        met.twice += 1;
+                        assert!(g < first);
+                    }
+                } else {
+                    assert_eq!(for_guides[vertex], None);
+                    for_guides[vertex] = Some(g);
+                }
+                assert!(before[vertex].is_none_or(|before| g < before));
+                before[vertex] = Some(g);
+                // Every g is the cost of a walk, so no less than the least.
+                assert_ne!(vertex as u32, job.goal);
+            }
+            _ => {}
+        }
+    }
+    assert_eq!(count, turns);
+    let logged = (turns as usize).min(job.log_room);
+    for (index, &word) in outcome.log.iter().enumerate() {
+        if !(GUARD..GUARD + logged).contains(&index) {
+            assert_eq!(word, jobs::pattern(5, 1, index));
+        }
+    }
+
+    // Work memory against the plan and the expansions.
+    let needed = 5 * vertices + 1 + 2 * plan.edges();
+    let work = &outcome.work[GUARD..GUARD + needed];
+    for (index, &word) in outcome.work.iter().enumerate() {
+        if !(GUARD..GUARD + needed).contains(&index) {
+            assert_eq!(word, jobs::pattern(5, 2, index));
+        }
+    }
+    for (vertex, &first) in work[..=vertices].iter().enumerate() {
+        let smaller = plan.tails.iter().filter(|&&tail| (tail as usize) < vertex);
+        assert_eq!(first as usize, smaller.count());
+    }
+    let (heads, rest) = work[vertices + 1..].split_at(plan.edges());
+    let (costs, rest) = rest.split_at(plan.edges());
+    assert_eq!((heads, costs), (&plan.heads[..], &plan.costs[..]));
+    let least = dijkstra::distances_from(plan, job.start);
+    for (vertex, words) in rest.chunks_exact(4).enumerate() {
+        let &[g, expanded, predecessor, marks] = words else {
+            unreachable!()
+        };
+        assert_eq!(expanded, before[vertex].unwrap_or(NONE));
+        assert!(marks < 16 && marks & 12 != 12);
+        if g == NONE {
+            assert_eq!((expanded, predecessor, marks), (NONE, NONE, 0));
+            continue;
+        }
+        assert!(u64::from(g) >= least[vertex].expect("a reached vertex has a walk"));
+        // Open or held exactly where g is news.
+        assert_eq!(marks & 12 != 0, g < expanded);
+        assert_eq!(predecessor == NONE, vertex as u32 == job.start);
+        if predecessor != NONE {
+            let tail = &rest[4 * predecessor as usize..][..4];
+            let cost = walk_cost(plan, &[predecessor, vertex as u32]);
+            assert!(u64::from(tail[1]) + cost <= u64::from(g));
+        }
+    }
+}
+
+#[test]
+fn demand_3_and_dijkstra() {
+    let mut met = Met::default();
+    let mut count = 0;
+    jobs::valid_jobs(41, 12_000, &mut |plan, job| {
+        check(plan, job, &mut met);
+        count += 1;
+    });
+    assert!(count >= 40_000, "{count} jobs");
+    assert!(met.routes >= 15_000, "{} routes", met.routes);
+    assert!(met.optimal_rounds >= 3_000, "{}", met.optimal_rounds);
+    assert!(met.no_routes >= 2_000, "{}", met.no_routes);
+    assert!(met.unfinished >= 4_000, "{}", met.unfinished);
+    assert!(met.twice >= 500, "{}", met.twice);
+}
+
+/// With budget enough, no route exactly where there is none.
+#[test]
+fn no_route_exactly_where_there_is_none() {
+    let mut random = Random::new(42);
+    let mut counts = [0; 2];
+    for index in 0..8_000 {
+        let shape = jobs::SHAPES[index % jobs::SHAPES.len()];
+        let (plan, job) = jobs::random_job(&mut random, shape);
+        let reached = dijkstra::distances_from(&plan, job.start)[job.goal as usize].is_some();
+        let (answer, _) = job.events();
+        match answer {
+            Answer::Route { .. } => assert!(reached),
+            Answer::NoRoute { .. } => assert!(!reached),
+            _ => panic!("{answer:?}"),
+        }
+        counts[usize::from(reached)] += 1;
+    }
+    assert!(counts[0] > 800 && counts[1] > 800, "{counts:?}");
+}
+
+#[test]
+fn damaged_jobs_are_refused() {
+    let mut counts = [0; 14];
+    jobs::damaged_jobs(43, 26_000, &mut |job, known| {
+        let outcome = job.run(&SecondPlanner, 9);
+        assert_eq!(outcome.answer, known, "{job:?}");
+        let memories = [&outcome.route, &outcome.log, &outcome.work];
+        for (number, memory) in (0..).zip(memories) {
+            for (index, &word) in memory.iter().enumerate() {
+                assert_eq!(word, jobs::pattern(9, number, index));
+            }
+        }
+        if let Answer::Refused { number, .. } = known {
+            counts[number as usize] += 1;
+        }
+    });
+    for (number, &count) in counts.iter().enumerate().skip(1) {
+        assert!(count >= 800, "refusal {number}: {count}");
+    }
+}
+
+/// Every rare event is met.
+#[test]
+fn rare_events() {
+    let mut events = Events::default();
+    jobs::valid_jobs(44, 60_000, &mut |_, job| {
+        events.count(job);
+    });
+    for (name, count) in events.names() {
+        println!("{name}: {count} in {} jobs", events.jobs);
+    }
+    for (name, count) in events.names() {
+        assert!(count >= 100, "{name}: {count} in {} jobs", events.jobs);
+    }
+}
+
+#[test]
+fn jobs_at_the_limits() {
+    let mut met = Met::default();
+    let mut costs = Vec::new();
+    jobs::large_jobs(45, &mut |plan, job| {
+        check(plan, job, &mut met);
+        if let (Answer::Route { cost, .. }, _) = job.events() {
+            costs.push(cost);
+        }
+    });
+    assert_eq!(costs[..4], [4_095_000_000; 4]);
+    assert!(met.routes >= 5);
+}
