@@ -4,11 +4,11 @@ use Prim.Native.Nat.{ℕ, zero, suc, _+_, _*_, _-_, _≤_, _<_}
 use mathlib.Core.Path.{_≡_, refl, sym, ap, _∙_}
 use mathlib.Core.Bool.{Bool, true, false, cond, _&&_}
 use mathlib.Core.List.{List, [], _∷_}
-use native.Mathlib.Nat.{mul-le-mul-right, suc-mul, zero-mul, not-suc-le-zero, le-of-suc-le-suc}
+use native.Mathlib.Nat.{suc-mul, zero-mul, not-suc-le-zero, le-of-suc-le-suc}
 use native.Mathlib.Numerals.{add-one}
 use native.Mathlib.Omega.{arith}
 use borrow.Author.Tests.{eq-eqb, ne-eqb}
-use lib.Dec.{leb, ltb, eqb}
+use lib.Dec.{leb, ltb}
 use lib.ListN.{length, getD, take, drop, drop-of-length-le}
 use lib.Seq.{drop-cons, drop-drop}
 use Rattle.search.specs.declared.Best.{Best}
@@ -20,7 +20,7 @@ use Rattle.search.specs.declared.Vertex.{Vertex}
 use Rattle.search.specs.Job.{at, fresh, unreached}
 use Rattle.search.specs.Turn.{key, offered, better, leastFrom, least, stepOne, candidate, choose}
 use Rattle.search.specs.Call.{tables}
-use Rattle.search.specs.Bounds.{maxKey, Small, Within, DueWithin}
+use Rattle.search.specs.Bounds.{maxKey, Within, DueWithin}
 use Rattle.workspace.specs.declared.Size.{Size}
 use Rattle.workspace.specs.Layout.{verticesOf}
 use Rattle.workspace.proofs.Written.{length-verticesOf}
@@ -131,9 +131,18 @@ module _ (w1 : ℕ) (st : List Vertex) where
   unfolding candidate
   candidate-none i hs e = simp (eq-eqb i 0 e)
 
-  pub candidate-some : (i : ℕ) (hs : List ℕ) → (i ≡ 0 → ⊥) → candidate i w1 hs st ≡ least i w1 hs st
+  candidate-some : (i : ℕ) (hs : List ℕ) → (i ≡ 0 → ⊥) → candidate i w1 hs st ≡ least i w1 hs st
   unfolding candidate
   candidate-some i hs h = simp (ne-eqb i 0 h)
+
+  -- the least of the part that holds sheet i
+  pub candidate-part :
+      (v i : ℕ) (l : List ℕ) (r : Best) → (i ≡ 0 → ⊥) →
+      r ≡ least i w1 (take ((i - 1) * v + v - (i - 1) * v) (drop ((i - 1) * v) l)) st → r ≡ candidate i w1 (sheet v i l) st
+  unfolding sheet
+  candidate-part v i l r h e =
+      let n : (i - 1) * v + v - (i - 1) * v ≡ v = omega arith in
+      e ∙ ap (λ (k : ℕ). least i w1 (take k (drop ((i - 1) * v) l)) st) n ∙ sym (candidate-some i (sheet v i l) h)
 
   -- sheet i is heuristic i of the job
   getD-tables : (v n : ℕ) (l : List ℕ) (i : ℕ) → i < n → getD (tables v n l) i [] ≡ take v (drop (i * v) l)

@@ -1,6 +1,5 @@
 -- `reopen` meets its contract. Assumes nothing.
 use Prim.Native.Nat.{_-_}
-use native.Mathlib.Omega.{arith}
 use Rattle.workspace.proofs.Written.{ready-kept, length-kept}
 use Rattle.workspace.proofs.Begun.{Reopening, reopening-none, reopening-more, reopening-all}
 use borrow.Author.Needs.{needs}

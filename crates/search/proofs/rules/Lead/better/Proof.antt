@@ -5,7 +5,6 @@ use mathlib.Core.Bool.{Bool, true, false, cond}
 use native.Mathlib.Omega.{arith}
 use borrow.Author.Tests.{lt-ltb, le-ltb, ne-eqb}
 use lib.Dec.{eqb}
-use Rattle.search.specs.declared.Best.{Best}
 use Rattle.search.specs.declared.Best.the-variants.{Nobody, Found}
 use Rattle.search.specs.declared.rules.Lead.{Lead}
 use Rattle.search.specs.Turn.{better}
