@@ -4,11 +4,11 @@ use Prim.Native.Nat.{ℕ, zero, suc, _+_, _*_, _-_, _≤_, _<_}
 use mathlib.Core.Path.{_≡_, refl, sym, ap, _∙_}
 use mathlib.Core.Bool.{Bool, true, false, cond, _&&_}
 use mathlib.Core.List.{List, [], _∷_}
-use native.Mathlib.Nat.{mul-le-mul-right, suc-mul, zero-mul, not-suc-le-zero, le-of-suc-le-suc}
+use native.Mathlib.Nat.{suc-mul, zero-mul, not-suc-le-zero, le-of-suc-le-suc}
 use native.Mathlib.Numerals.{add-one}
 use native.Mathlib.Omega.{arith}
 use borrow.Author.Tests.{eq-eqb, ne-eqb}
-use lib.Dec.{leb, ltb, eqb}
+use lib.Dec.{leb, ltb}
 use lib.ListN.{length, getD, take, drop, drop-of-length-le}
 use lib.Seq.{drop-cons, drop-drop}
 use Rattle.search.specs.declared.Best.{Best}
@@ -20,7 +20,7 @@ use Rattle.search.specs.declared.Vertex.{Vertex}
 use Rattle.search.specs.Job.{at, fresh, unreached}
 use Rattle.search.specs.Turn.{key, offered, better, leastFrom, least, stepOne, candidate, choose}
 use Rattle.search.specs.Call.{tables}
-use Rattle.search.specs.Bounds.{maxKey, Small, Within, DueWithin}
+use Rattle.search.specs.Bounds.{maxKey, Within, DueWithin}
 use Rattle.workspace.specs.declared.Size.{Size}
 use Rattle.workspace.specs.Layout.{verticesOf}
 use Rattle.workspace.proofs.Written.{length-verticesOf}
@@ -43,7 +43,7 @@ module _ (n : ℕ) where
         vertex = λ j t e. let i : s ≡ t = cc in omega arith;
       }
 
-  pub within-better : (t : Bool) (k s : ℕ) (b : Best) → Within n b → k ≤ maxKey → s < n → Within n (better t k s b)
+  within-better : (t : Bool) (k s : ℕ) (b : Best) → Within n b → k ≤ maxKey → s < n → Within n (better t k s b)
   unfolding better
   within-better false k s b h p q = h
   within-better true k s Nobody h p q = within-found k s p q
@@ -52,6 +52,15 @@ module _ (n : ℕ) where
       go : (x : Bool) → Within n (cond x (Found k s) (Found j u))
       go true = within-found k s p q
       go false = h
+
+  -- one vertex considered
+  module _ (o : Bool) (k s : ℕ) (b : Best) (h : Within n b) where
+    pub offered-taken : (r : Best) → o ≡ true → k ≤ maxKey → s < n → r ≡ better true k s b → (r ≡ better o k s b) × Within n r
+    offered-taken r e p q f = (f ∙ ap (λ (t : Bool). better t k s b) (sym e), rw f (within-better true k s b h p q))
+
+    pub offered-left : o ≡ false → (b ≡ better o k s b) × Within n b
+    unfolding better
+    offered-left e = (rw e, h)
 
   due-by : (b : Best) (t : Step) → Within n b → ((m a : ℕ) → t ≡ Due m a → b ≡ Found m a) → DueWithin n t
   due-by b t h f = record { key = λ m a e. h .small .key m a (f m a e); vertex = λ m a e. h .vertex m a (f m a e) }
@@ -88,9 +97,9 @@ pub record Scanned (z : Size) (w hs : List ℕ) (i w1 s : ℕ) (b : Best) : Type
   pub fits : Within (z .vertices) b
 
 module _ (z : Size) (w hs : List ℕ) (i w1 : ℕ) where
-  pub scanned-none : Scanned z w hs i w1 0 Nobody
+  pub scanned-none : (b : Best) → b ≡ Nobody → Scanned z w hs i w1 0 b
   unfolding least
-  scanned-none = record { within = omega arith; rest = refl; fits = within-nobody (z .vertices) }
+  scanned-none b e = rw e record { within = omega arith; rest = refl; fits = within-nobody (z .vertices) }
 
   module _ (s : ℕ) (b : Best) (k : Scanned z w hs i w1 s b) where
     abbrev x : Vertex
@@ -104,11 +113,11 @@ module _ (z : Size) (w hs : List ℕ) (i w1 : ℕ) where
         let l : s < length (verticesOf z w) = omega (arith, length-verticesOf z w) in
         record { within = omega arith; rest = rw (e, add-one) (rw (drop-cons (verticesOf z w) s fresh l) at (k .rest)); fits = f }
 
-    pub scanned-all : z .vertices ≤ s → (b ≡ least i w1 hs (verticesOf z w)) × Within (z .vertices) b
+    pub scanned-all : (r : Best) → r ≡ b → z .vertices ≤ s → (r ≡ least i w1 hs (verticesOf z w)) × Within (z .vertices) r
     unfolding leastFrom
-    scanned-all h =
+    scanned-all r e h =
         let l : length (verticesOf z w) ≤ s = omega (arith, length-verticesOf z w) in
-        (rw (drop-of-length-le (verticesOf z w) l) at (k .rest), k .fits)
+        (e ∙ rw (drop-of-length-le (verticesOf z w) l) at (k .rest), rw e (k .fits))
 
 -- ---- sheets
 
@@ -122,9 +131,18 @@ module _ (w1 : ℕ) (st : List Vertex) where
   unfolding candidate
   candidate-none i hs e = simp (eq-eqb i 0 e)
 
-  pub candidate-some : (i : ℕ) (hs : List ℕ) → (i ≡ 0 → ⊥) → candidate i w1 hs st ≡ least i w1 hs st
+  candidate-some : (i : ℕ) (hs : List ℕ) → (i ≡ 0 → ⊥) → candidate i w1 hs st ≡ least i w1 hs st
   unfolding candidate
   candidate-some i hs h = simp (ne-eqb i 0 h)
+
+  -- the least of the part that holds sheet i
+  pub candidate-part :
+      (v i : ℕ) (l : List ℕ) (r : Best) → (i ≡ 0 → ⊥) →
+      r ≡ least i w1 (take ((i - 1) * v + v - (i - 1) * v) (drop ((i - 1) * v) l)) st → r ≡ candidate i w1 (sheet v i l) st
+  unfolding sheet
+  candidate-part v i l r h e =
+      let n : (i - 1) * v + v - (i - 1) * v ≡ v = omega arith in
+      e ∙ ap (λ (k : ℕ). least i w1 (take k (drop ((i - 1) * v) l)) st) n ∙ sym (candidate-some i (sheet v i l) h)
 
   -- sheet i is heuristic i of the job
   getD-tables : (v n : ℕ) (l : List ℕ) (i : ℕ) → i < n → getD (tables v n l) i [] ≡ take v (drop (i * v) l)

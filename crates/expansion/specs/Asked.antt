@@ -1,6 +1,5 @@
 -- What a turn is asked, and what it chooses, as the code sees it.
-use Prim.Native.Nat.{ℕ, _+_, _-_, _*_, _≤_, _<_}
-use mathlib.Core.Path.{_≡_}
+use Prim.Native.Nat.{ℕ, _+_, _-_, _*_, _≤_}
 use mathlib.Core.List.{List}
 use lib.ListN.{length, take, drop}
 use Rattle.graph.specs.Limits.{maxVertices}

@@ -1,30 +1,54 @@
 // The rules of a turn on plain numbers: the better key, step 1, step 3, and whose turn it is.
 ghost use mathlib.Core.Path.{_≡_};
+ghost use mathlib.Core.Bool.{true};
 ghost use Prim.Native.Nat.{_≤_};
 ghost use Rattle.search.specs.Turn.{better, stepOne, choose};
 ghost use Rattle.search.specs.Rounds.{firstTurn, nextTurn};
 ghost use Rattle.search.specs.Bounds.{maxFactor, maxKey, Small};
+ghost use Rattle.search.specs.Lead.{bestOf};
+ghost use Rattle.search.specs.declared.Best.the-variants.{Nobody};
 use crate::Best;
 use crate::Choice;
 use crate::Step;
 use crate::Vertex;
 
-// The better of the best so far and vertex s with key k, if it is offered.
-pub fn better(offered: bool, k: u64, s: u32, b: Best) -> Best
-    ensures { λ r. ⌜ r ≡ better offered k s b ⌝ }
-{
-    if !offered {
-        return b;
-    }
-    match b {
-        Best::Nobody => Best::Found(k, s),
-        Best::Found(j, t) => {
-            if k < j {
-                Best::Found(k, s)
-            } else {
-                Best::Found(j, t)
-            }
+// The best of a scan so far, in two numbers: a key above all keys stands for nobody.
+pub struct Lead {
+    pub key: u64,
+    pub vertex: u32,
+}
+
+impl Lead {
+    pub const NO_KEY: u64 = 18446744073709551615;
+
+    pub fn none() -> Lead
+        ensures { λ r. ⌜ bestOf r ≡ Nobody ⌝ }
+    {
+        Lead {
+            key: Lead::NO_KEY,
+            vertex: 0,
         }
+    }
+
+    // The better of it and vertex s with key k, which is offered.
+    pub fn better(self, k: u64, s: u32) -> Lead
+        requires { ⌜ k ≤ maxKey ⌝ }
+        ensures { λ r. ⌜ bestOf r ≡ better true k s (bestOf self) ⌝ }
+    {
+        if k < self.key {
+            return Lead { key: k, vertex: s };
+        }
+        self
+    }
+
+    pub fn best(self) -> Best
+        ensures { λ r. ⌜ r ≡ bestOf self ⌝ }
+    {
+        let key = self.key;
+        if key == Lead::NO_KEY {
+            return Best::Nobody;
+        }
+        Best::Found(key, self.vertex)
     }
 }
 

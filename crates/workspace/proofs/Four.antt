@@ -6,7 +6,7 @@ use mathlib.Core.List.{List, [], _∷_, _++_}
 use Prim.Native.Nat.{ℕ, zero, suc, _+_, _*_, _≤_, _<_}
 use native.Mathlib.Nat.{not-suc-le-zero, le-of-suc-le-suc, add-assoc}
 use native.Mathlib.Omega.{arith}
-use lib.ListN.{length, getD, set, drop, length-drop, replicate}
+use lib.ListN.{length, set, drop, length-drop, replicate}
 use lib.Seq.{getD-drop, drop-drop}
 use Rattle.graph.specs.Lists.{over}
 use Rattle.search.specs.declared.Vertex.{Vertex}

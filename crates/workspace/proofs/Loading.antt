@@ -1,13 +1,12 @@
 -- Laws for the code that loads a graph: the words after an edge, and after all of them.
 -- Assumes nothing.
-use mathlib.Core.Path.{_≡_, refl, sym, ap, _∙_, subst}
+use mathlib.Core.Path.{_≡_, refl, sym, ap, _∙_}
 use mathlib.Core.List.{List, [], _∷_, _++_, map, append-assoc, append-nil}
 use Prim.Native.Nat.{ℕ, zero, suc, _+_, _*_, _-_, _≤_, _<_}
-use native.Mathlib.Nat.{add-assoc, add-zero, zero-add, suc-add}
 use native.Mathlib.Numerals.{add-one}
 use native.Mathlib.Omega.{arith}
-use lib.ListN.{length, getD, set, take, drop, replicate, length-replicate, length-append, length-drop, length-set, length-map, take-append-drop, drop-of-length-le}
-use lib.Seq.{sets, sets-eq, length-sets, set-append-left, length-take-le, drop-drop, take-all}
+use lib.ListN.{length, set, take, drop, replicate, length-replicate, length-append, length-drop, length-set, length-map, take-append-drop, drop-of-length-le}
+use lib.Seq.{sets, sets-eq, length-sets, set-append-left, length-take-le, drop-drop}
 use Rattle.graph.specs.declared.Edge.{Edge}
 use Rattle.graph.specs.declared.Cursor.{Cursor}
 use Rattle.graph.specs.declared.EdgeRead.{EdgeRead}
@@ -19,12 +18,13 @@ use Rattle.graph.specs.Steps.{cursorPast}
 use Rattle.graph.proofs.OneEdge.{Read, read-edge, edge-passes, passes-within}
 use Rattle.graph.proofs.Plan.{First, Accepts, accepts}
 use Rattle.graph.proofs.Filling.{Stored, stored-none, stored-next, first, cursor-next, sized-by}
-use Rattle.search.specs.Outcome.{edgesBelow, firstEdges}
+use Rattle.search.specs.Outcome.{firstEdges}
 use Rattle.workspace.specs.declared.Size.{Size}
 use Rattle.workspace.specs.Layout.{base, graphWords}
 use Rattle.workspace.specs.Holds.{Rising, end, then}
 use Rattle.workspace.specs.Steps.{withEdge, edgeStored}
-use Rattle.workspace.proofs.Firsts.{passes-rising, below-none, countsFrom, counts-first, firstsFrom, firsts-are}
+use Rattle.workspace.proofs.Written.{set-after}
+use Rattle.workspace.proofs.Firsts.{passes-rising, below-none, counts-first, firstsFrom, firsts-are}
 
 -- ---- one edge
 
@@ -73,8 +73,7 @@ sets-left (v ∷ vs) a r i h =
     (sets-left vs (set a i v) r (suc i) (omega (arith, length-set a i v)))
 
 set-right : (a r : List ℕ) (n i v : ℕ) → length a ≡ n → set (a ++ r) (n + i) v ≡ a ++ set r i v
-set-right [] r n i v e = rw (← e, zero-add)
-set-right (x ∷ a) r n i v e = rw (← e, suc-add) (ap (λ (l : List ℕ). x ∷ l) (set-right a r (length a) i v refl))
+set-right a r n i v e = rw (← e) (set-after a r i v)
 
 -- first edges, heads, costs, and the words behind them
 module _ (z : Size) (r : List ℕ) where

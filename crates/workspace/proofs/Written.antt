@@ -8,7 +8,6 @@ use native.Mathlib.Omega.{arith}
 use lib.ListN.{length, getD, set, drop, take, length-drop, length-append, length-set, take-append-drop, List·getD-append, replicate}
 use lib.Seq.{getD-take, take-at, drop-at, length-take-le}
 use Rattle.graph.specs.Lists.{over}
-use Rattle.graph.specs.declared.Edge.{Edge}
 use Rattle.search.specs.declared.Vertex.{Vertex}
 use Rattle.search.specs.Job.{at}
 use Rattle.search.specs.Outcome.{vertexWords}
@@ -131,7 +130,7 @@ module _ (z : Size) (w₀ w : List ℕ) (r : Ready z w₀) (k : w ≡ written z 
 
 -- ---- a store is one vertex of the list changed
 
-set-after : (a r : List ℕ) (i v : ℕ) → set (a ++ r) (length a + i) v ≡ a ++ set r i v
+pub set-after : (a r : List ℕ) (i v : ℕ) → set (a ++ r) (length a + i) v ≡ a ++ set r i v
 set-after [] r i v = rw zero-add
 set-after (x ∷ a) r i v = rw (suc-add, set-after a r i v)
 

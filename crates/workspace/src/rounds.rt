@@ -40,9 +40,9 @@ pub fn reopen(work: &mut [u32], z: Size)
     ensures { λ _. ⌜ now (work .exit) ≡ written z (map reopened (verticesOf z (now (work .entry)))) (now (work .entry)) ⌝ }
 {
     let vertices = z.vertices;
-    let mut p: u32 = 0;
-    while p < vertices {
-        reopen_one(work, z, p);
-        p += 1;
+    let mut s: u32 = 0;
+    while s < vertices {
+        reopen_one(work, z, s);
+        s += 1;
     }
 }

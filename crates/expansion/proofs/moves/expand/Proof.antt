@@ -22,7 +22,7 @@ marked-requires c κs = search needs
 store-requires : tie.Need-store-requires
 store-requires c κs =
     let s = c .before .before .before .before .before in
-    (s .pre .0, s .pre .1, rw (c .marked .ensures) (fits-marked (s .args .i) _ (c .before .before .load .ensures .1)))
+    (s .pre .0, s .pre .1, rw (c .marked .ensures) (fits-marked _ _ (c .before .before .load .ensures .1)))
 
 -- src/moves.rt:47:5
 relax-all-requires : tie.Need-relax-all-requires

@@ -31,7 +31,7 @@ lowered-requires c κs = search needs
 store-requires : tie.Need-store-requires
 store-requires c κs =
     let s = c .before .before .before .before .before .before .before in
-    (s .pre .0, s .pre .1, rw (c .lowered .ensures) (fits-lowered _ (s .args .s) _ (c .before .before .before .before .load .ensures .1) (c .before .before .if1 .taken)))
+    (s .pre .0, s .pre .1, rw (c .lowered .ensures) (fits-lowered _ _ _ (c .before .before .before .before .load .ensures .1) (c .before .before .if1 .taken)))
 
 -- src/moves.rt:12:1
 same-length : tie.Need-same-length

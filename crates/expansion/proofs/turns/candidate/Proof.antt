@@ -1,9 +1,7 @@
 -- `candidate` meets its contract. Assumes nothing.
-use Prim.Native.Nat.{_+_, _-_, _*_}
-use mathlib.Core.Path.{_≡_, sym, _∙_}
+use mathlib.Core.Path.{sym}
+use Rattle.expansion.proofs.Keys.{within-nobody, sheet-fits, candidate-none, candidate-part}
 use native.Mathlib.Omega.{arith}
-use Rattle.expansion.specs.Asked.{sheet}
-use Rattle.expansion.proofs.Keys.{within-nobody, sheet-fits, candidate-none, candidate-some}
 use borrow.Author.Needs.{needs}
 use Rattle.expansion.proofs.turns.candidate.Statement.{statement}
 use Rattle.expansion.proofs.turns.candidate.Tie as tie
@@ -63,13 +61,9 @@ least-requires c κs = search needs
 
 -- src/turns.rt:33:1
 returns-2 : tie.Need-returns-2
-unfolding sheet
 returns-2 c =
     let s = c .before .before .before .before .before in
-    let v = s .args .z .vertices in
-    let o = (s .args .i - 1) * v in
-    let e : (o + v) - o ≡ v = omega arith in
-    (rw e at (c .least .ensures .0) ∙ sym (candidate-some _ _ (s .args .i) _ (c .before .before .if1 .left)), c .least .ensures .1)
+    (candidate-part _ _ (s .args .z .vertices) (s .args .i) _ _ (c .before .before .if1 .left) (c .least .ensures .0), c .least .ensures .1)
 
 pub candidate-spec : {M : Type 1} → statement M
 candidate-spec =

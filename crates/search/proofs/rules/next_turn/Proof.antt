@@ -1,5 +1,4 @@
 -- `next_turn` meets its contract. Assumes nothing.
-use mathlib.Core.Path.{_∙_}
 use native.Mathlib.Numerals.{add-one}
 use borrow.Author.Tests.{lt-ltb, le-ltb}
 use Rattle.search.specs.Rounds.{nextTurn}

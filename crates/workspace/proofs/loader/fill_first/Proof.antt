@@ -1,7 +1,6 @@
 -- `fill_first` meets its contract. Assumes nothing.
 use Prim.Native.Nat.{_-_}
 use mathlib.Core.Path.{_≡_, refl, sym, _∙_}
-use native.Mathlib.Omega.{arith}
 use lib.ListN.{length, length-set, replicate}
 use lib.Seq.{sets}
 use Rattle.workspace.proofs.Firsts.{fill-more, fill-done}

@@ -39,7 +39,7 @@ loop-holds c =
 load-edge-requires : tie.Need-load-edge-requires Inv-loop μ-loop
 load-edge-requires c κs =
     let s = c .before .before .before .before .before .before in
-    (omega (arith, c .before .before .loop .inv .size, length-set (s .args .work .now) 0 0, s .pre .1), c .before .loop-test .taken)
+    (omega (arith, simp length-set at (c .before .before .loop .inv .size), s .pre .1), c .before .loop-test .taken)
 
 -- src/loader.rt:62:9
 add-j : tie.Need-add-j Inv-loop μ-loop
@@ -78,11 +78,11 @@ fill-first-requires : tie.Need-fill-first-requires Inv-loop μ-loop
 unfolding base
 fill-first-requires c κs =
     let s = c .before .before .before .before .before .before in
-    omega (arith, c .before .before .loop .inv .size, length-set (s .args .work .now) 0 0, s .pre .1)
+    omega (arith, simp length-set at (c .before .before .loop .inv .size), s .pre .1)
 
 -- src/loader.rt:50:1
 same-length : tie.Need-same-length Inv-loop μ-loop
-same-length c = c .before .before .fill-first .kept .0 ∙ c .before .before .before .before .before .loop .inv .size ∙ length-set (c .before .before .before .before .before .before .before .before .before .args .work .now) 0 0
+same-length c = c .before .before .fill-first .kept .0 ∙ simp length-set at (c .before .before .before .before .before .loop .inv .size)
 
 -- src/loader.rt:50:1
 returns : tie.Need-returns Inv-loop μ-loop

@@ -63,7 +63,7 @@ origin-requires c κs = search needs
 
 -- src/rounds.rt:25:5
 put-requires-2 : tie.Need-put-requires-2 Inv-loop μ-loop
-put-requires-2 c κs = (omega (arith, c .before .before .before .loop .inv .1, c .before .before .before .before .before .pre .0), c .before .before .before .before .before .pre .1, rw (c .origin .ensures) fits-origin)
+put-requires-2 c κs = (omega (arith, c .before .before .before .loop .inv .1, c .before .before .before .before .before .pre .0), omega (arith, c .before .before .before .before .before .pre .1), rw (c .origin .ensures) fits-origin)
 
 -- src/rounds.rt:15:1
 same-length : tie.Need-same-length Inv-loop μ-loop

@@ -1,6 +1,5 @@
 -- `reopen` meets its contract. Assumes nothing.
 use Prim.Native.Nat.{_-_}
-use native.Mathlib.Omega.{arith}
 use Rattle.workspace.proofs.Written.{ready-kept, length-kept}
 use Rattle.workspace.proofs.Begun.{Reopening, reopening-none, reopening-more, reopening-all}
 use borrow.Author.Needs.{needs}
@@ -11,10 +10,10 @@ use Rattle.workspace.proofs.rounds.reopen.Lts as lts
 use Rattle.workspace.proofs.rounds.reopen_one.Reads as reopen-one-reads
 
 abbrev Inv-loop : tie.InvT-loop
-Inv-loop work₀ z vertices p₀ work p = Reopening z work₀ work p
+Inv-loop work₀ z vertices s₀ work s = Reopening z work₀ work s
 
 abbrev μ-loop : tie.MeasureT-loop
-μ-loop work₀ z vertices p₀ work p = vertices - p
+μ-loop work₀ z vertices s₀ work s = vertices - s
 
 -- src/rounds.rt:44:5
 loop-holds : tie.Need-loop-holds Inv-loop μ-loop
@@ -28,8 +27,8 @@ reopen-one-requires c κs =
     (ready-kept (s .args .z) (s .args .work .now) (l .work) (s .pre) (l .inv .kept), c .before .loop-test .taken)
 
 -- src/rounds.rt:46:9
-add-p : tie.Need-add-p Inv-loop μ-loop
-add-p c = search needs
+add-s : tie.Need-add-s Inv-loop μ-loop
+add-s c = search needs
 
 -- src/rounds.rt:44:5
 loop-less : tie.Need-loop-less Inv-loop μ-loop
@@ -40,7 +39,7 @@ loop-again : tie.Need-loop-again Inv-loop μ-loop
 loop-again c =
     let s = c .before .before .before .before .before .before .before in
     let l = c .before .before .before .before .before .loop in
-    reopening-more (s .args .z) (s .args .work .now) (s .pre) (l .work) (l .p) (l .inv) _ (c .before .before .before .before .loop-test .taken) (c .before .before .reopen-one .ensures)
+    reopening-more (s .args .z) (s .args .work .now) (s .pre) (l .work) (l .s) (l .inv) _ (c .before .before .before .before .loop-test .taken) (c .before .before .reopen-one .ensures)
 
 -- src/rounds.rt:38:1
 same-length : tie.Need-same-length Inv-loop μ-loop
@@ -53,7 +52,7 @@ returns : tie.Need-returns Inv-loop μ-loop
 returns c =
     let s = c .before .before .before in
     let l = c .before .loop in
-    reopening-all (s .args .z) (s .args .work .now) (s .pre) (l .work) (l .p) (l .inv) (c .loop-test .left)
+    reopening-all (s .args .z) (s .args .work .now) (s .pre) (l .work) (l .s) (l .inv) (c .loop-test .left)
 
 pub reopen-spec : {M : Type 1} → statement M
 reopen-spec =
@@ -63,7 +62,7 @@ reopen-spec =
     μ-loop
     loop-holds
     reopen-one-requires
-    add-p
+    add-s
     loop-less
     loop-again
     same-length
