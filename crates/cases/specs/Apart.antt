@@ -1,8 +1,7 @@
 -- A job that tells document 01's rules from others that are sound too; not one of its (p) cases. Proved in proofs/Cases.antt.
-use Prim.Native.Nat.{ℕ}
-use mathlib.Core.List.{List, [], _∷_, _++_}
+use mathlib.Core.List.{[], _∷_, _++_}
 use lib.ListN.{replicate}
-use Rattle.search.specs.Call.{Memory, Call}
+use Rattle.search.specs.Call.{Call}
 use Rattle.cases.specs.Cases.{HandsOver, routed, no, old}
 
 -- lanes 0 to 1 at 3, 0 to 2 at 5, 0 to 3 at 2, 1 to 4 at 1, 2 to 4 at 1, 3 to 2 at 1; from 0 to 4, zero anchor table
