@@ -44,14 +44,15 @@ pub record PlanRefused (bytes : List ℕ) (n p : ℕ) : Type 0 where
 abbrev pub planA : List ℕ
 planA = 0x04 ∷ 0x04 ∷ 0x00 ∷ 0x01 ∷ 0x01 ∷ 0x00 ∷ 0x02 ∷ 0x04 ∷ 0x01 ∷ 0x02 ∷ 0x02 ∷ 0x01 ∷ 0x03 ∷ 0x03 ∷ []
 
--- every word of lent memory before the call, and 4,294,967,295
+-- every word of lent memory before the call
 abbrev pub old : ℕ
 old = 7
 
-abbrev pub no : ℕ
-no = 4294967295
+-- not reached, never expanded, no predecessor; past the route's end
+abbrev pub unset : ℕ
+unset = 4294967295
 
--- a word more than is needed, in each
+-- lent memory: in each a word more than job A needs
 abbrev pub lent : Memory
 lent = record { route = replicate 5 old; log = replicate 5 old; work = replicate 30 old }
 
@@ -95,7 +96,7 @@ twoVertices schedule budget memory =
       memory = memory;
     }
 
--- a schedule: up to 16 rounds, two factors each, 100 to 10,000; neither rises from a round to the next
+-- a schedule: up to 16 rounds, two factors each, 100 to 10,000; neither rises from a round to the next; an empty one means the house schedule
 pub record Schedule (ws : List ℕ) : Type 0 where
   pub rounds : ℕ
   pub few : rounds ≤ 16
@@ -114,7 +115,7 @@ twoVerticesAfter m =
     record {
       route = m .route;
       log = over (take (length (m .log)) (0 ∷ [])) (m .log);
-      work = over (0 ∷ 0 ∷ 0 ∷ 0 ∷ 0 ∷ no ∷ 2 ∷ no ∷ no ∷ no ∷ 0 ∷ []) (m .work);
+      work = over (0 ∷ 0 ∷ 0 ∷ 0 ∷ 0 ∷ unset ∷ 2 ∷ unset ∷ unset ∷ unset ∷ 0 ∷ []) (m .work);
     }
 
 -- ---- start = goal
@@ -145,15 +146,15 @@ pub record Cases : Type 0 where
       (record {
         route = 0 ∷ 1 ∷ 2 ∷ 3 ∷ old ∷ [];
         log = 65536 ∷ 65538 ∷ 1 ∷ 65538 ∷ old ∷ [];
-        work = workA (0 ∷ 0 ∷ no ∷ 0 ∷ []) (1 ∷ 1 ∷ 0 ∷ 2 ∷ []) (3 ∷ 3 ∷ 1 ∷ 1 ∷ []) (6 ∷ no ∷ 2 ∷ 4 ∷ []);
+        work = workA (0 ∷ 0 ∷ unset ∷ 0 ∷ []) (1 ∷ 1 ∷ 0 ∷ 2 ∷ []) (3 ∷ 3 ∷ 1 ∷ 1 ∷ []) (6 ∷ unset ∷ 2 ∷ 4 ∷ []);
       })
   -- (p) allowance 2: route 0 2 3, cost 7, one round, bound 40000
   pub job-A-at-2 :
       HandsOver (jobA 2) (routed 7 3 1 2 40000)
       (record {
-        route = 0 ∷ 2 ∷ 3 ∷ no ∷ old ∷ [];
+        route = 0 ∷ 2 ∷ 3 ∷ unset ∷ old ∷ [];
         log = 65536 ∷ 65538 ∷ old ∷ old ∷ old ∷ [];
-        work = workA (0 ∷ 0 ∷ no ∷ 0 ∷ []) (1 ∷ no ∷ 0 ∷ 4 ∷ []) (4 ∷ 4 ∷ 0 ∷ 0 ∷ []) (7 ∷ no ∷ 2 ∷ 4 ∷ []);
+        work = workA (0 ∷ 0 ∷ unset ∷ 0 ∷ []) (1 ∷ unset ∷ 0 ∷ 4 ∷ []) (4 ∷ 4 ∷ 0 ∷ 0 ∷ []) (7 ∷ unset ∷ 2 ∷ 4 ∷ []);
       })
   -- (p) allowance 1: unfinished
   pub job-A-at-1 :
@@ -161,7 +162,7 @@ pub record Cases : Type 0 where
       (record {
         route = old ∷ old ∷ old ∷ old ∷ old ∷ [];
         log = 65536 ∷ old ∷ old ∷ old ∷ old ∷ [];
-        work = workA (0 ∷ 0 ∷ no ∷ 1 ∷ []) (1 ∷ no ∷ 0 ∷ 4 ∷ []) (4 ∷ no ∷ 0 ∷ 4 ∷ []) (no ∷ no ∷ no ∷ 0 ∷ []);
+        work = workA (0 ∷ 0 ∷ unset ∷ 1 ∷ []) (1 ∷ unset ∷ 0 ∷ 4 ∷ []) (4 ∷ unset ∷ 0 ∷ 4 ∷ []) (unset ∷ unset ∷ unset ∷ 0 ∷ []);
       })
   -- (p) `02 00`, 0 to 1, zero anchor table, no guides, allowance 1 or more: no route, 1 turn
   pub two-vertices :
