@@ -23,7 +23,8 @@ use Rattle.search.proofs.Tools.{at-set-same}
 use Rattle.search.proofs.Facts.{Valid}
 use Rattle.search.proofs.Rule.{StepView, at-stuck, at-finished, at-due, step-view}
 use Rattle.search.proofs.Runs.{run-over, moments-over, finished≢due}
-use Rattle.search.proofs.Admitted.{admitted}
+use Rattle.search.specs.Admitted.{Admitted}
+use Rattle.search.proofs.Admitted.{exact, admitted}
 use Rattle.cases.specs.Cases.{HandsOver, allRounds, startAlone}
 use Rattle.cases.proofs.Ends.{settled-at, handed}
 
@@ -128,7 +129,10 @@ unfolding jobFrom jobIn
 goal-of c (accepted v es) = refl
 goal-of c (refused n p) = refl
 
-module _ (c : Call) (e : faultOf c ≡ none) (same : c .start ≡ c .goal) where
+module _ (c : Call) (y : Admitted c) (same : c .start ≡ c .goal) where
+  abbrev e : faultOf c ≡ none
+  e = exact c .1 y
+
   starts : jobOf c .start ≡ c .start
   unfolding jobOf
   starts = start-of c (decode (c .bytes))

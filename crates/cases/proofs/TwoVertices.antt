@@ -19,9 +19,10 @@ use Rattle.search.specs.Turn.{key, offered, better, leastFrom, least, stepOne, 
 use Rattle.search.specs.Rounds.{State, Stand, Moment, firstTurn, nextTurn, turned, inHand, step, choice, turn, onFinished, begin, onDue, advance, run, moments, search}
 use Rattle.search.specs.Call.{Memory, Call, inForce, pairs, faultOf, tables, jobIn, jobFrom, jobOf}
 use Rattle.search.specs.Outcome.{answerAt, answerOf, figures, routeAfter, logWord, logAfter, edgesBelow, firstEdges, markWord, vertexWords, workWords, outcome, answerIn, memoryIn}
+use Rattle.search.specs.Admitted.{Schedule}
 use Rattle.search.proofs.Admitted.{clear-none}
 use Rattle.search.proofs.Runs.{run-over, moments-over, stuck≢due}
-use Rattle.cases.specs.Cases.{HandsOver, Schedule, Enough, twoVertices, noRouteAfter, twoVerticesAfter}
+use Rattle.cases.specs.Cases.{HandsOver, Enough, twoVertices, noRouteAfter, twoVerticesAfter}
 use Rattle.cases.proofs.Schedules.{in-force}
 use Rattle.cases.proofs.Ends.{settled-at, handed}
 

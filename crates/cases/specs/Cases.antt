@@ -1,14 +1,15 @@
 -- The cases that document 01 marks (p), one row each in one table. Proved in proofs/Cases.antt.
-use Prim.Native.Nat.{ℕ, suc, _+_, _-_, _*_, _≤_, _<_}
+use Prim.Native.Nat.{ℕ, _+_, _-_, _*_, _≤_}
 use mathlib.Core.Path.{_≡_}
 use mathlib.Core.List.{List, [], _∷_, _++_}
-use lib.ListN.{length, getD, take, replicate}
+use lib.ListN.{length, take, replicate}
 use Rattle.graph.specs.declared.PlanRead.the-variants.{Refused}
 use Rattle.graph.specs.Plan.{decode}
 use Rattle.graph.specs.Plan
-use Rattle.graph.specs.Lists.{none, over, readAnswer, edgesIn}
+use Rattle.graph.specs.Lists.{over, readAnswer, edgesIn}
 use Rattle.search.specs.Job.{Job, factors, routeEnd, atFirst}
-use Rattle.search.specs.Call.{Memory, Call, faultOf, jobOf}
+use Rattle.search.specs.Call.{Memory, Call, jobOf}
+use Rattle.search.specs.Admitted.{Schedule, Admitted}
 use Rattle.search.specs.Outcome.{Figures, route, noRoute, unfinished, refused, figures, workWords, answer, memoryAfter}
 
 -- ---- what a call hands over
@@ -96,14 +97,6 @@ twoVertices schedule budget memory =
       memory = memory;
     }
 
--- a schedule: up to 16 rounds, two factors each, 100 to 10,000; neither rises from a round to the next; an empty one means the house schedule
-pub record Schedule (ws : List ℕ) : Type 0 where
-  pub rounds : ℕ
-  pub few : rounds ≤ 16
-  pub two : length ws ≡ rounds * 2
-  pub range : (i : ℕ) → i < length ws → (100 ≤ getD ws i 0) × (getD ws i 0 ≤ 10000)
-  pub falls : (i : ℕ) → suc (suc i) < length ws → getD ws (suc (suc i)) 0 ≤ getD ws i 0
-
 -- lent memory that is large enough: V words of route memory, 5V+1+2M of work memory
 pub record Enough (v m : ℕ) (memory : Memory) : Type 0 where
   pub route : v ≤ length (memory .route)
@@ -168,8 +161,8 @@ pub record Cases : Type 0 where
   pub two-vertices :
       (ws : List ℕ) → Schedule ws → (budget : ℕ) → 1 ≤ budget → (m : Memory) → Enough 2 0 m →
       HandsOver (twoVertices ws budget m) (noRouteAfter 1) (twoVerticesAfter m)
-  -- (p) Start = goal, allowance 0, valid tables: cost 0, every round finished. So at every allowance
-  pub start-is-goal : (c : Call) → faultOf c ≡ none → c .start ≡ c .goal → HandsOver c (allRounds c) (startAlone c)
+  -- (p) Start = goal, allowance 0, valid tables: cost 0, every round finished. So of every call that is not refused
+  pub start-is-goal : (c : Call) → Admitted c → c .start ≡ c .goal → HandsOver c (allRounds c) (startAlone c)
   -- (p) no bytes: 1 at 0
   pub no-bytes : PlanRefused [] 1 0
   -- (p) `80 00`: 1 at 0
