@@ -1,2 +1,3 @@
 pub mod Jobs
-pub mod Carrying
+pub mod Asked
+pub mod Ending

@@ -1,0 +1,63 @@
+-- What a call that is not refused gives the code: numbers in range, tables and memory long enough. Assumes nothing.
+use Prim.Native.Nat.{ℕ, zero, suc, _+_, _-_, _*_, _≤_, _<_}
+use native.Mathlib.Nat.{mul-le-mul-left, mul-le-mul-right}
+use native.Mathlib.Omega.{arith}
+use mathlib.Core.Path.{_≡_, refl, sym, ap, _∙_, subst}
+use mathlib.Core.List.{List}
+use lib.ListN.{length, getD}
+use Rattle.graph.specs.Limits.{maxVertices}
+use Rattle.graph.specs.OneForm.{Within}
+use Rattle.graph.proofs.Within.{accepted-within}
+use Rattle.search.specs.declared.Factors.{Factors}
+use Rattle.search.specs.Job.{factors}
+use Rattle.search.specs.Call.{Call, jobOf}
+use Rattle.search.specs.Bounds.{maxFactor}
+use Rattle.search.proofs.Facts.{Valid, InRange}
+use Rattle.search.proofs.Admitted.{Clear, clear, admitted}
+use Rattle.workspace.specs.declared.Size.{Size}
+use Rattle.workspace.specs.Layout.{base, Room}
+use Rattle.planner.specs.declared.Query.{Query}
+use Rattle.planner.specs.Carried.{Asking}
+use Rattle.planner.proofs.Jobs.{Accepted, accepts, job-size, job-edges, job-goal, job-start}
+
+module _ (c : Call) (z : Size) (q : Query) (a : Asking c z q) where
+  plan : Accepted c
+  plan = accepts c (a .admitted)
+
+  rows : Clear c (plan .v) (plan .es)
+  rows = clear c (plan .v) (plan .es) (plan .rows)
+
+  valid : Valid (jobOf c)
+  valid = admitted c (a .admitted)
+
+  same : z .vertices ≡ plan .v
+  same = a .vertices ∙ job-size c plan
+
+  pub start-in : q .start < z .vertices
+  start-in = omega (arith, rows .starts, a .start, same)
+
+  pub goal-in : q .goal < z .vertices
+  goal-in = omega (arith, rows .ends, a .goal, same)
+
+  pub anchor-long : (anchor : List ℕ) → anchor ≡ c .anchor → z .vertices ≤ length anchor
+  anchor-long anchor e = omega (arith, ap length e, rows .anchored, same)
+
+  pub small : z .vertices ≤ maxVertices
+  small = omega (arith, accepted-within (c .bytes) (plan .v) (plan .es) (plan .plan) .vertices, same)
+
+  pub few : c .count ≤ 8
+  few = rows .few
+
+  pub sheets-long : (i : ℕ) (guides : List ℕ) → i ≤ c .count → guides ≡ c .sheets → i * z .vertices ≤ length guides
+  sheets-long i guides h e =
+      omega (arith, ap length e, rows .guided, ap (λ (n : ℕ). c .count * n) same, ap (λ (n : ℕ). i * n) same, mul-le-mul-right (plan .v) h)
+
+  pub in-range : (r : ℕ) → r < q .rounds → InRange (factors (jobOf c) r .w1) (factors (jobOf c) r .w2)
+  in-range r h = valid .range r (omega (arith, a .rounds))
+
+  pub route-room : z .vertices ≤ length (c .memory .route)
+  route-room = omega (arith, rows .route-room, same)
+
+  pub work-room : Room z (c .memory .work)
+  unfolding base
+  work-room = omega (arith, rows .work-room, same, a .edges, ap length (job-edges c plan))
