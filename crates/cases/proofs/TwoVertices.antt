@@ -25,13 +25,12 @@ use Rattle.search.specs.Outcome.{Figures, answerAt, answerOf, figures, routeAft
 use Rattle.search.proofs.Admitted.{clear-none}
 use Rattle.search.proofs.Runs.{run-over, moments-over, stuck≢due}
 use Rattle.cases.specs.Cases.{HandsOver, Schedule, Enough, twoVertices, noRouteAfter, twoVerticesAfter}
-use Rattle.cases.proofs.Schedules.{Passes, passes}
+use Rattle.cases.proofs.Schedules.{in-force}
 use Rattle.cases.proofs.Ends.{settled-at, handed}
 
 not-refused : (ws : List ℕ) → Schedule ws → (n : ℕ) (m : Memory) → Enough 2 0 m → faultOf (twoVertices ws n m) ≡ none
 unfolding Number.decode answered read planGroups vertexCountRows edgeCountRows through throughAll Rows.take taking edgesFrom header afterHeader decode faultOf
 not-refused ws y n m e =
-    let p : Passes _ = passes ws y in
     clear-none (twoVertices ws n m) 2 []
     (record {
       starts = omega arith;
@@ -39,10 +38,7 @@ not-refused ws y n m e =
       few = omega arith;
       anchored = refl;
       guided = refl;
-      short = p .short;
-      even = p .even;
-      range = p .range;
-      falls = p .falls;
+      schedule = in-force ws y;
       route-room = e .route;
       work-room = e .work;
       goal-zero = refl;

@@ -1,0 +1,37 @@
+// The least key of a heuristic over all vertices.
+ghost use mathlib.Core.Path.{_≡_};
+ghost use Prim.Native.Nat.{_<_, _≤_};
+ghost use lib.ListN.{length, getD};
+ghost use Rattle.search.specs.Job.{at};
+ghost use Rattle.search.specs.Turn.{key, offered, better, least};
+ghost use Rattle.search.specs.Bounds.{maxFactor, Within};
+ghost use Rattle.workspace.specs.Layout.{Room, verticesOf};
+use search::Best;
+use search::rules;
+use workspace::Size;
+use workspace::layout;
+
+// The better of the best so far, b, and vertex s.
+fn consider(work: &[u32], numbers: &[u32], z: Size, i: u32, w1: u32, s: u32, b: Best) -> Best
+    requires { ⌜ Room z (now work) × (s < z .vertices) × (z .vertices ≤ length (now numbers)) × (w1 ≤ maxFactor) × Within (z .vertices) b ⌝ }
+    ensures { λ r. ⌜ (r ≡ better (offered i (getD (now (numbers .entry)) s 0) (at (verticesOf z (now (work .entry))) s)) (key w1 (getD (now (numbers .entry)) s 0) (at (verticesOf z (now (work .entry))) s)) s b) × Within (z .vertices) r ⌝ }
+{
+    let h = numbers[s as usize];
+    let x = layout::load(work, z, s);
+    rules::better(x.offered(i, h), x.key(w1, h), s, b)
+}
+
+// The best vertex of heuristic i, whose numbers are given.
+pub fn least(work: &[u32], numbers: &[u32], z: Size, i: u32, w1: u32) -> Best
+    requires { ⌜ Room z (now work) × (z .vertices ≤ length (now numbers)) × (w1 ≤ maxFactor) ⌝ }
+    ensures { λ r. ⌜ (r ≡ least i w1 (now (numbers .entry)) (verticesOf z (now (work .entry)))) × Within (z .vertices) r ⌝ }
+{
+    let vertices = z.vertices;
+    let mut b = Best::Nobody;
+    let mut s: u32 = 0;
+    while s < vertices {
+        b = consider(work, numbers, z, i, w1, s, b);
+        s += 1;
+    }
+    b
+}

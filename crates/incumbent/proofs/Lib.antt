@@ -1,0 +1,4 @@
+pub mod Found
+pub mod Traces
+pub mod Laid
+pub mod Ended
