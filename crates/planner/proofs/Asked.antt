@@ -12,8 +12,9 @@ use Rattle.search.specs.declared.Factors.{Factors}
 use Rattle.search.specs.Job.{factors}
 use Rattle.search.specs.Call.{Call, jobOf}
 use Rattle.search.specs.Bounds.{maxFactor}
+use Rattle.search.specs.Admitted.{Admissible}
 use Rattle.search.proofs.Facts.{Valid, InRange}
-use Rattle.search.proofs.Admitted.{Clear, clear, admitted}
+use Rattle.search.proofs.Admitted.{clear, admitted}
 use Rattle.workspace.specs.declared.Size.{Size}
 use Rattle.workspace.specs.Layout.{base, Room}
 use Rattle.planner.specs.declared.Query.{Query}
@@ -24,7 +25,7 @@ module _ (c : Call) (z : Size) (q : Query) (a : Asking c z q) where
   plan : Accepted c
   plan = accepts c (a .admitted)
 
-  rows : Clear c (plan .v) (plan .es)
+  rows : Admissible c (plan .v) (plan .es)
   rows = clear c (plan .v) (plan .es) (plan .rows)
 
   valid : Valid (jobOf c)
