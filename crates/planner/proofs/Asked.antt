@@ -3,14 +3,14 @@ use Prim.Native.Nat.{ℕ, zero, suc, _+_, _-_, _*_, _≤_, _<_}
 use native.Mathlib.Nat.{mul-le-mul-left, mul-le-mul-right}
 use native.Mathlib.Omega.{arith}
 use mathlib.Core.Path.{_≡_, refl, sym, ap, _∙_, subst}
-use mathlib.Core.List.{List}
+use mathlib.Core.List.{List, [], _∷_}
 use lib.ListN.{length, getD}
 use Rattle.graph.specs.Limits.{maxVertices}
 use Rattle.graph.specs.OneForm.{Within}
 use Rattle.graph.proofs.Within.{accepted-within}
 use Rattle.search.specs.declared.Factors.{Factors}
-use Rattle.search.specs.Job.{factors}
-use Rattle.search.specs.Call.{Call, jobOf}
+use Rattle.search.specs.Job.{factors, house}
+use Rattle.search.specs.Call.{Call, inForce, pairs, jobOf}
 use Rattle.search.specs.Bounds.{maxFactor}
 use Rattle.search.specs.Admitted.{Admissible}
 use Rattle.search.proofs.Facts.{Valid, InRange}
@@ -18,8 +18,17 @@ use Rattle.search.proofs.Admitted.{clear, admitted}
 use Rattle.workspace.specs.declared.Size.{Size}
 use Rattle.workspace.specs.Layout.{base, Room}
 use Rattle.planner.specs.declared.Query.{Query}
-use Rattle.planner.specs.Carried.{Asking}
-use Rattle.planner.proofs.Jobs.{Accepted, accepts, job-size, job-edges, job-goal, job-start}
+use Rattle.planner.specs.Carried.{Asking, Carries}
+use Rattle.search.specs.declared.Progress.{Progress}
+use Rattle.search.specs.Rounds.{State}
+use Rattle.search.proofs.Words.{route-kept}
+use Rattle.planner.proofs.Jobs.{Accepted, accepts, job-size, job-edges, job-schedule}
+
+half : (ws : List ℕ) → 2 * length (pairs ws) ≤ length ws
+unfolding pairs
+half [] = omega arith
+half (u ∷ []) = omega arith
+half (u ∷ v ∷ ws) = omega (arith, half ws)
 
 module _ (c : Call) (z : Size) (q : Query) (a : Asking c z q) where
   plan : Accepted c
@@ -62,3 +71,22 @@ module _ (c : Call) (z : Size) (q : Query) (a : Asking c z q) where
   pub work-room : Room z (c .memory .work)
   unfolding base
   work-room = omega (arith, rows .work-room, same, a .edges, ap length (job-edges c plan))
+
+  -- at most 16 rounds, of two factors each
+  pub schedule-short : length (inForce house (c .schedule)) ≤ 32
+  schedule-short = omega (arith, rows .schedule .few, rows .schedule .two)
+
+  pub rounds-few : length (jobOf c .schedule) ≤ 16
+  rounds-few = omega (arith, ap length (job-schedule c), half (inForce house (c .schedule)), schedule-short)
+
+-- route memory has V words
+pub route-long :
+    (c : Call) (z : Size) (q : Query) → Asking c z q → (s : State) (p : Progress) (work route : List ℕ) → Carries c z s p work route →
+    z .vertices ≤ length route
+route-long c z q a s p work route k =
+    omega (
+      arith,
+      ap length (k .kept),
+      route-kept (jobOf c) s (c .memory .route) (λ l. k .ok .kept .route l .short) (omega (arith, route-room c z q a, a .vertices)),
+      route-room c z q a,
+    )

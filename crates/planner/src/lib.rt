@@ -1,4 +1,6 @@
 // The planner call: refusals first, then the rounds over lent memory.
+mod rounds;
+
 use search::Progress;
 use search::Step;
 
