@@ -8,10 +8,10 @@ use Rattle.search.specs.declared.Progress.{Progress}
 use Rattle.search.specs.declared.Step.{Step}
 use Rattle.search.specs.declared.Step.the-variants.{Finished}
 use Rattle.search.specs.Bounds.{DueWithin}
-use Rattle.search.specs.Rounds.{State, Stand, step, endRound, settle}
+use Rattle.search.specs.Rounds.{State, Stand, Moment, step, endRound, settle}
 use Rattle.search.specs.Call.{Call, faultOf, jobOf}
-use Rattle.search.specs.Outcome.{routeAfter}
-use Rattle.search.proofs.Standing.{Ok}
+use Rattle.search.specs.Outcome.{routeAfter, logAfter}
+use Rattle.search.proofs.Standing.{Ok, Good}
 use Rattle.workspace.specs.declared.Size.{Size}
 use Rattle.workspace.specs.Holds.{Holds}
 use Rattle.planner.specs.declared.Query.{Query}
@@ -74,3 +74,12 @@ pub record Settles
   pub settles :
       (c : Call) (s : State) → Asking c z q → anchor ≡ c .anchor → schedule ≡ c .schedule → Carries c z s p work route →
       left ≡ length (jobOf c .schedule) - s .progress .rounds → Stands c z (settle (jobOf c) left s) r work′ route′
+
+-- ---- between two turns
+
+-- the search stands at y after the turns ts, in memory and in the code's record
+pub record Reaches (c : Call) (z : Size) (y : Stand) (ts : List Moment) (r : Standing) (work route log : List ℕ) : Type 0 where
+  pub stands : Stands c z y r work route
+  pub good : Good (jobOf c) y
+  pub logged : log ≡ logAfter ts (c .memory .log)
+  pub turns : r .progress .expansions ≡ length ts
