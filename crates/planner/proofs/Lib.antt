@@ -2,3 +2,5 @@ pub mod Jobs
 pub mod Asked
 pub mod Ending
 pub mod Settling
+pub mod Logging
+pub mod Turning

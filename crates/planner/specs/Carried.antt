@@ -1,14 +1,14 @@
 -- The search in hand, as the planner's code and lent memory carry it: for the contracts of its own functions, nothing that a reader must believe.
 use Prim.Native.Nat.{ℕ, suc, _-_, _≤_, _<_}
 use mathlib.Core.Path.{_≡_}
-use mathlib.Core.List.{List}
+use mathlib.Core.List.{List, [], _++_}
 use lib.ListN.{length}
 use Rattle.graph.specs.Lists.{none}
 use Rattle.search.specs.declared.Progress.{Progress}
 use Rattle.search.specs.declared.Step.{Step}
 use Rattle.search.specs.declared.Step.the-variants.{Finished}
 use Rattle.search.specs.Bounds.{DueWithin}
-use Rattle.search.specs.Rounds.{State, Stand, Moment, step, endRound, settle}
+use Rattle.search.specs.Rounds.{State, Stand, Moment, step, endRound, settle, begin, advance, run, moments}
 use Rattle.search.specs.Call.{Call, faultOf, jobOf}
 use Rattle.search.specs.Outcome.{routeAfter, logAfter}
 use Rattle.search.proofs.Standing.{Ok, Good}
@@ -83,3 +83,41 @@ pub record Reaches (c : Call) (z : Size) (y : Stand) (ts : List Moment) (r : Sta
   pub good : Good (jobOf c) y
   pub logged : log ≡ logAfter ts (c .memory .log)
   pub turns : r .progress .expansions ≡ length ts
+
+-- ---- a turn, and step 1 after it
+
+-- where the arguments of a call stand in the code's
+pub record Given (c : Call) (anchor guides schedule : List ℕ) : Type 0 where
+  pub anchor-is : anchor ≡ c .anchor
+  pub sheets-is : guides ≡ c .sheets
+  pub schedule-is : schedule ≡ c .schedule
+
+pub record Advancing (z : Size) (q : Query) (anchor guides schedule : List ℕ) (s : Standing) (work route log : List ℕ) : Type 0 where
+  pub call : Call
+  pub stand : Stand
+  pub turns : List Moment
+  pub asking : Asking call z q
+  pub given : Given call anchor guides schedule
+  pub reaches : Reaches call z stand turns s work route log
+  pub more : s .progress .expansions < 4294967295
+
+pub record Advances
+    (z : Size) (q : Query) (anchor guides schedule : List ℕ) (s : Standing) (work route log : List ℕ) (r : Standing) (work′ route′ log′ : List ℕ) : Type 0 where
+  pub advances :
+      (c : Call) (y : Stand) (ts : List Moment) → Asking c z q → Given c anchor guides schedule → Reaches c z y ts s work route log →
+      Reaches c z (advance (jobOf c) y) (ts ++ moments (jobOf c) 1 y) r work′ route′ log′
+
+-- ---- the turns
+
+pub record Running (z : Size) (q : Query) (anchor guides schedule : List ℕ) (s : Standing) (work route log : List ℕ) : Type 0 where
+  pub call : Call
+  pub asking : Asking call z q
+  pub given : Given call anchor guides schedule
+  pub reaches : Reaches call z (begin (jobOf call)) [] s work route log
+
+-- so many turns, or as many as there are
+pub record Runs
+    (z : Size) (q : Query) (anchor guides schedule : List ℕ) (n : ℕ) (s : Standing) (work route log : List ℕ) (r : Standing) (work′ route′ log′ : List ℕ) : Type 0 where
+  pub runs :
+      (c : Call) → Asking c z q → Given c anchor guides schedule → Reaches c z (begin (jobOf c)) [] s work route log →
+      Reaches c z (run (jobOf c) n (begin (jobOf c))) (moments (jobOf c) n (begin (jobOf c))) r work′ route′ log′

@@ -1,5 +1,6 @@
 // The planner call: refusals first, then the rounds over lent memory.
 mod rounds;
+mod turns;
 
 use search::Progress;
 use search::Step;
