@@ -4,3 +4,4 @@ pub mod Ending
 pub mod Settling
 pub mod Logging
 pub mod Turning
+pub mod Rerun

@@ -111,8 +111,7 @@ module _ (z : Size) (q : Query) (anchor schedule : List ℕ) (left : ℕ) (p : P
       let i : f ≡ factors (jobOf c) (p .rounds)
       = e ∙ ap (λ (l : List ℕ). getD (pairs (inForce house l)) (p .rounds) (record { w1 = 0; w2 = 0 })) (h .schedule-is) ∙ sym (job-factors c (p .rounds)) in
       let r : InRange (factors (jobOf c) (p .rounds) .w1) (factors (jobOf c) (p .rounds) .w2)
-      = in-range c z q (h .asking) (p .rounds) (omega (arith, more, rounds-is, h .asking .rounds)) in
-      (
+      = in-range c z q (h .asking) (p .rounds) (omega (arith, more, rounds-is, h .asking .rounds)) in (
         omega (arith, ap (λ (x : Factors). x .w1) i, r .high1),
         omega (arith, ap (λ (x : Factors). x .w2) i, r .high2),
       )

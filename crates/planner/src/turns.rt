@@ -41,3 +41,42 @@ pub fn advance(
         }
     }
 }
+
+// Whether a turn is due, and one is left.
+fn goes_on(s: Standing, left: u32) -> bool
+    ensures { λ r. ⌜ r ≡ (isDue (s .step) && ltb 0 left) ⌝ }
+{
+    let step = s.step;
+    match step {
+        Step::Stuck => false,
+        Step::Finished => false,
+        Step::Due(_, _) => 0 < left,
+    }
+}
+
+// Turns while one is due, at most as many as the budget.
+pub fn run(
+    work: &mut [u32],
+    route: &mut [u32],
+    log: &mut [u32],
+    anchor: &[u32],
+    guides: &[u32],
+    schedule: &[u32],
+    z: Size,
+    q: Query,
+    budget: u32,
+    s: Standing,
+) -> Standing
+    requires { ⌜ Running z q (now anchor) (now guides) (now schedule) s (now work) (now route) (now log) ⌝ }
+    ensures { λ r. ⌜ Runs z q (now (anchor .entry)) (now (guides .entry)) (now (schedule .entry)) budget s (now (work .entry)) (now (route .entry)) (now (log .entry)) r (now (work .exit)) (now (route .exit)) (now (log .exit)) ⌝ }
+{
+    let mut stand = s;
+    let mut left = budget;
+    let mut going = goes_on(stand, left);
+    while going {
+        stand = advance(work, route, log, anchor, guides, schedule, z, q, stand);
+        left -= 1;
+        going = goes_on(stand, left);
+    }
+    stand
+}

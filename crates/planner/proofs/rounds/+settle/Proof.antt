@@ -130,7 +130,7 @@ settle-settle-requires : (t : ℕ) → settle-lts.Need-settle-requires (
 settle-settle-requires t c κs = (
   omega (arith, c .before .before .before .before .before .before .before .before .before .before .before .before .before .before .if1, c .before .before .before .before .before .before .before .before .before .before .before .before .before .before .before .before .before .before .before .pre .0),
   settling-on _ _ _ _ _ _ _ _ (c .before .before .before .before .before .before .before .before .before .before .before .before .before .before .before .before .before .before .before .pre .1) (c .before .before .before .before .before .before .before .before .before .before .before .before .before .before .if1 .left) _ _ (c .before .before .before .before .before .before .before .before .before .before .before .before .before .factors .ensures) (c .before .before .before .before .before .before .before .before .before .before .before .step .ensures .0) (c .before .before .before .before .before .before .before .before .before .enum-told2 .given .1) _ _ _
-  (c .before .before .before .before .before .before .end-round .ensures),
+      (c .before .before .before .before .before .before .end-round .ensures),
 )
 
 -- src/rounds.rt:67:28
