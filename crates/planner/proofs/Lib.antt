@@ -2,3 +2,4 @@ pub mod Jobs
 pub mod Asked
 pub mod Ending
 pub mod Settling
+pub mod Beginning
