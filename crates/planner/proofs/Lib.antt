@@ -5,3 +5,4 @@ pub mod Settling
 pub mod Logging
 pub mod Turning
 pub mod Rerun
+pub mod Beginning

@@ -1,2 +1,4 @@
 pub mod Carried
 pub mod Going
+pub mod Begun
+pub mod Plan

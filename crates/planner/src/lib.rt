@@ -1,4 +1,5 @@
 // The planner call: refusals first, then the rounds over lent memory.
+mod begin;
 mod rounds;
 mod turns;
 
