@@ -6,3 +6,4 @@ pub mod Logging
 pub mod Turning
 pub mod Rerun
 pub mod Beginning
+pub mod Handed

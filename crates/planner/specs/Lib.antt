@@ -2,3 +2,4 @@ pub mod Carried
 pub mod Going
 pub mod Begun
 pub mod Plan
+pub mod Planning
