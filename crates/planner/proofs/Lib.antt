@@ -3,3 +3,4 @@ pub mod Asked
 pub mod Ending
 pub mod Settling
 pub mod Beginning
+pub mod Finishing
