@@ -7,3 +7,4 @@ pub mod Turning
 pub mod Rerun
 pub mod Beginning
 pub mod Handed
+pub mod Finishing

@@ -3,3 +3,4 @@ pub mod Going
 pub mod Begun
 pub mod Plan
 pub mod Planning
+pub mod Finished

@@ -1,5 +1,6 @@
 // The planner call: refusals first, then the rounds over lent memory.
 mod begin;
+mod finish;
 mod rounds;
 mod turns;
 
