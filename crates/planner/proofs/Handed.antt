@@ -32,6 +32,7 @@ use Rattle.planner.specs.declared.Query.{Query}
 use Rattle.planner.specs.declared.Standing.{Standing}
 use Rattle.planner.specs.Carried.{Asking, Given, Stands, Reaches, Running, Runs}
 use Rattle.planner.specs.Begun.{Called, Beginning, Begins}
+use Rattle.planner.specs.Finished.{AtEnd, Finishing, Finishes}
 use Rattle.planner.specs.Planning.{refusalOf, Lent, Admission, Answers}
 use Rattle.planner.specs.Plan.{Planned}
 use Rattle.planner.proofs.Jobs.{Accepted, accepts, job-size, job-edges, job-schedule}
@@ -173,3 +174,58 @@ module _ (c : Call) where
       (r ≡ answer c) × (route ≡ memoryAfter c .route) × (log ≡ memoryAfter c .log) × (work ≡ memoryAfter c .work) → Planned c r route log work
   planned r route log work h =
       record { answers = h .0; route-is = h .1; log-is = h .2; work-is = h .3; promise = guaranteed c }
+
+-- ---- what the code asks on the way, and what it answers
+
+module _ (z : Size) (q : Query) (bytes anchor guides schedule route log work : List ℕ) where
+  -- the plan has a header
+  pub answers-none :
+      {r : Answer} {route′ log′ work′ : List ℕ} (budget n p : ℕ) → header bytes ≡ HeaderFault n p →
+      Answers z q bytes anchor guides schedule budget route log work r route′ log′ work′
+  answers-none budget n p h =
+      record { answered = λ c l e. absurd (no-fault c z q bytes anchor guides schedule route log work l n p h) }
+
+  module _ (w m at : ℕ) (h : header bytes ≡ Counts w m at) where
+    pub beginning : Admission z q bytes anchor guides schedule route log work → Beginning z q bytes anchor schedule at work route
+    beginning a =
+        record { call = a .call; called = called (a .call) z q bytes anchor guides schedule route log work (a .lent) w m at h }
+
+    module _ (first : Standing) (work′ route′ : List ℕ) (b : Begins z q bytes anchor schedule at work route first work′ route′) where
+      pub running : Admission z q bytes anchor guides schedule route log work → Running z q anchor guides schedule first work′ route′ log
+      running a =
+          record {
+            call = a .call;
+            asking = a .lent .asking;
+            given = a .lent .given;
+            reaches = reaches-begin (a .call) z q bytes anchor guides schedule route log work (a .lent) w m at h first work′ route′ b;
+          }
+
+      module _ (n : ℕ) (last : Standing) (work″ route″ log″ : List ℕ) (k : Runs z q anchor guides schedule n first work′ route′ log last work″ route″ log″) where
+        at-end : (c : Call) → Lent c z q bytes anchor guides schedule route log work → AtEnd c z (run (jobOf c) n (begin (jobOf c))) last schedule work″ route″
+        at-end c l =
+            let y = reaches-end c z q bytes anchor guides schedule route log work l w m at h first work′ route′ b n last work″ route″ log″ k in
+            record {
+              admitted = l .asking .admitted;
+              vertices = l .asking .vertices;
+              schedule-is = l .given .schedule-is;
+              stands = y .stands;
+              good = y .good;
+            }
+
+        pub finishing : Admission z q bytes anchor guides schedule route log work → Finishing z last schedule route″
+        finishing a =
+            record {
+              call = a .call;
+              stand = run (jobOf (a .call)) n (begin (jobOf (a .call)));
+              work = work″;
+              at-end = at-end (a .call) (a .lent);
+            }
+
+        pub answers-all :
+            (r : Answer) → Finishes z last schedule route″ r → Answers z q bytes anchor guides schedule n route log work r route″ log″ work″
+        answers-all r f =
+            record {
+              answered =
+                  λ c l e. handed c z q bytes anchor guides schedule route log work l w m at h first work′ route′ b n last work″ route″ log″ k r e
+                  (f .finishes c (run (jobOf c) n (begin (jobOf c))) work″ (at-end c l));
+            }
