@@ -121,8 +121,7 @@ module _ (c : Call) (z : Size) (q : Query) (bytes anchor guides schedule route l
             let w : work″ ≡ over (workWords (job .size) (edgesIn (decode (c .bytes))) (run job (c .budget) (begin job) .state .vertices)) (c .memory .work)
             = y .stands .carries .words .words
             ∙ ap (λ (v : ℕ). over (workWords v (job .edges) (run job (c .budget) (begin job) .state .vertices)) (c .memory .work)) (l .asking .vertices)
-            ∙ ap (λ (es : List Edge). over (workWords (job .size) es (run job (c .budget) (begin job) .state .vertices)) (c .memory .work)) (sym edges-are) in
-            (
+            ∙ ap (λ (es : List Edge). over (workWords (job .size) es (run job (c .budget) (begin job) .state .vertices)) (c .memory .work)) (sym edges-are) in (
               rw (l .asking .admitted) f′,
               rw (l .asking .admitted) (y .stands .carries .kept),
               rw (l .asking .admitted) (y .logged),
@@ -148,10 +147,10 @@ module _ (c : Call) where
 
   -- the sizes and the query that the code makes of it
   pub asked :
-      (v m rounds : ℕ) → verdictOf c ≡ Admitted v m → rounds ≡ length (pairs (inForce house (c .schedule))) →
+      (d : Verdict) (v m rounds : ℕ) → d ≡ verdictOf c → d ≡ Admitted v m → rounds ≡ length (pairs (inForce house (c .schedule))) →
       Asking c (record { vertices = v; edges = m }) (record { start = c .start; goal = c .goal; guides = c .count; rounds = rounds })
-  asked v m rounds d e =
-      let a : Admits c v m = admits c v m d in
+  asked d v m rounds f g e =
+      let a : Admits c v m = admits c v m (sym f ∙ g) in
       let k : Accepted c = accepts c (a .none) in
       record {
         admitted = a .none;
@@ -166,8 +165,27 @@ module _ (c : Call) where
       edges-same : (a : Admits c v m) (k : Accepted c) → a .edges ≡ k .es
       edges-same a k = let x : accepted v (a .edges) ≡ accepted (k .v) (k .es) = sym (a .plan) ∙ k .plan in cc
 
-  pub short : (v m : ℕ) → verdictOf c ≡ Admitted v m → length (inForce house (c .schedule)) ≤ 32
-  short v m d = let a : Admits c v m = admits c v m d in omega (arith, a .clear .schedule .few, a .clear .schedule .two)
+  -- memory as it is lent
+  pub lent-is :
+      {z : Size} {q : Query} → Asking c z q →
+      Lent c z q (c .bytes) (c .anchor) (c .sheets) (c .schedule) (c .memory .route) (c .memory .log) (c .memory .work)
+  lent-is a =
+      record {
+        asking = a;
+        bytes-is = refl;
+        given = record { anchor-is = refl; sheets-is = refl; schedule-is = refl };
+        route-is = refl;
+        log-is = refl;
+        work-is = refl;
+      }
+
+  pub lent-here :
+      {z : Size} {q : Query} → Asking c z q →
+      Admission z q (c .bytes) (c .anchor) (c .sheets) (c .schedule) (c .memory .route) (c .memory .log) (c .memory .work)
+  lent-here a = record { call = c; lent = lent-is a }
+
+  pub short : (d : Verdict) (v m : ℕ) → d ≡ verdictOf c → d ≡ Admitted v m → length (inForce house (c .schedule)) ≤ 32
+  short d v m f g = let a : Admits c v m = admits c v m (sym f ∙ g) in omega (arith, a .clear .schedule .few, a .clear .schedule .two)
 
   pub planned :
       (r : Answer) (route log work : List ℕ) →

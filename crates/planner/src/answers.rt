@@ -41,6 +41,17 @@ pub fn answer(
         return Answer::Refused(0, 0);
     };
     let first = begin::begin(bytes, work, route, anchor, schedule, z, q, at);
-    let last = turns::run(work, route, log, anchor, guides, schedule, z, q, budget, first);
+    let last = turns::run(
+        work,
+        route,
+        log,
+        anchor,
+        guides,
+        schedule,
+        z,
+        q,
+        budget,
+        first,
+    );
     finish::finish(route, schedule, z, last)
 }

@@ -69,5 +69,16 @@ pub fn plan(
         guides: guide_count,
         rounds,
     };
-    answers::answer(bytes, anchor, guides, schedule, budget, z, q, route, log, work)
+    answers::answer(
+        bytes,
+        anchor,
+        guides,
+        schedule,
+        budget,
+        z,
+        q,
+        route,
+        log,
+        work,
+    )
 }

@@ -1,6 +1,7 @@
 -- `plan` meets its contract: refused as it must be, or answered as defined, with the guarantee. Assumes nothing.
-use mathlib.Core.Path.{refl, sym, _∙_}
-use Rattle.planner.proofs.Handed.{planned-refused, asked, short, planned}
+use mathlib.Core.Path.{refl}
+use Rattle.planner.specs.Plan.{callOf}
+use Rattle.planner.proofs.Handed.{planned-refused, asked, short, lent-is, lent-here, planned}
 use borrow.Author.Needs.{needs}
 use Rattle.planner.proofs.plan.Statement.{statement}
 use Rattle.planner.proofs.plan.Tie as tie
@@ -33,11 +34,17 @@ returns c = planned-refused _ _ _ _ _ (c .refused .ensures) (c .before .before .
 
 -- src/lib.rt:64:9
 rounds-requires : tie.Need-rounds-requires
-rounds-requires c κs = ?
+rounds-requires c κs =
+    let a = c .before .before .before .before .before .before .before .before .before .before .before .args in
+    let d = callOf (a .bytes .now) (a .start) (a .goal) (a .anchor .now) (a .guides .now) (a .guide-count) (a .schedule .now) (a .budget) (a .route .now) (a .log .now) (a .work .now) in
+    short d _ _ _ (c .before .before .before .fault .ensures .decided (a .budget) (d .memory) refl refl) (c .before .verdict .given .1)
 
 -- src/lib.rt:72:5
 answer-requires : tie.Need-answer-requires
-answer-requires c κs = ?
+answer-requires c κs =
+    let a = c .before .before .before .before .before .before .before .before .before .before .before .before .before .before .before .args in
+    let d = callOf (a .bytes .now) (a .start) (a .goal) (a .anchor .now) (a .guides .now) (a .guide-count) (a .schedule .now) (a .budget) (a .route .now) (a .log .now) (a .work .now) in
+    lent-here d (asked d _ _ _ _ (c .before .before .before .before .before .before .before .fault .ensures .decided (a .budget) (d .memory) refl refl) (c .before .before .before .before .before .verdict .given .1) (c .before .before .before .rounds .ensures))
 
 -- src/lib.rt:35:1
 same-length : tie.Need-same-length
@@ -53,7 +60,11 @@ same-length-3 c = search needs
 
 -- src/lib.rt:35:1
 returns-2 : tie.Need-returns-2
-returns-2 c = ?
+returns-2 c =
+    let a = c .before .before .before .before .before .before .before .before .before .before .before .before .before .before .before .before .before .before .before .before .before .before .args in
+    let d = callOf (a .bytes .now) (a .start) (a .goal) (a .anchor .now) (a .guides .now) (a .guide-count) (a .schedule .now) (a .budget) (a .route .now) (a .log .now) (a .work .now) in
+    let v = c .before .before .before .before .before .before .before .before .before .before .before .before .before .before .fault .ensures .decided (a .budget) (d .memory) refl refl in
+    planned d _ _ _ _ (c .before .before .before .before .before .before .answer .ensures .answered d (lent-is d (asked d _ _ _ _ v (c .before .before .before .before .before .before .before .before .before .before .before .before .verdict .given .1) (c .before .before .before .before .before .before .before .before .before .before .rounds .ensures))) refl)
 
 pub plan-spec : {M : Type 1} → statement M
 plan-spec =
