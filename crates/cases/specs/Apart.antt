@@ -1,9 +1,8 @@
 -- A job that tells document 01's rules from others that are sound too; not one of its (p) cases. Proved in proofs/Cases.antt.
-use Prim.Native.Nat.{ℕ}
-use mathlib.Core.List.{List, [], _∷_, _++_}
+use mathlib.Core.List.{[], _∷_, _++_}
 use lib.ListN.{replicate}
-use Rattle.search.specs.Call.{Memory, Call}
-use Rattle.cases.specs.Cases.{HandsOver, routed, no, old}
+use Rattle.search.specs.Call.{Call}
+use Rattle.cases.specs.Cases.{HandsOver, routed, unset, old}
 
 -- lanes 0 to 1 at 3, 0 to 2 at 5, 0 to 3 at 2, 1 to 4 at 1, 2 to 4 at 1, 3 to 2 at 1; from 0 to 4, zero anchor table
 abbrev pub jobB : Call
@@ -33,15 +32,15 @@ pub record Apart : Type 0 where
   pub job-B :
       HandsOver jobB (routed 4 4 2 5 10000)
       (record {
-        route = 0 ∷ 3 ∷ 2 ∷ 4 ∷ no ∷ [];
+        route = 0 ∷ 3 ∷ 2 ∷ 4 ∷ unset ∷ [];
         log = 65536 ∷ 131074 ∷ 3 ∷ 1 ∷ 131074 ∷ old ∷ [];
         work =
             (0 ∷ 3 ∷ 4 ∷ 5 ∷ 6 ∷ 6 ∷ [])
             ++ (1 ∷ 2 ∷ 3 ∷ 4 ∷ 4 ∷ 2 ∷ [])
             ++ (3 ∷ 5 ∷ 2 ∷ 1 ∷ 1 ∷ 1 ∷ [])
-            ++ (0 ∷ 0 ∷ no ∷ 0 ∷ [])
+            ++ (0 ∷ 0 ∷ unset ∷ 0 ∷ [])
             ++ (3 ∷ 3 ∷ 0 ∷ 2 ∷ [])
             ++ (3 ∷ 3 ∷ 3 ∷ 1 ∷ [])
             ++ (2 ∷ 2 ∷ 0 ∷ 0 ∷ [])
-            ++ (4 ∷ no ∷ 1 ∷ 4 ∷ []);
+            ++ (4 ∷ unset ∷ 1 ∷ 4 ∷ []);
       })

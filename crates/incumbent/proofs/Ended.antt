@@ -1,9 +1,10 @@
 -- A round's end: what `keep` gives is the incumbent's cost and route memory that the search's definitions give.
 -- Assumes nothing.
 use mathlib.Core.Path.{_≡_, refl, sym, ap, _∙_}
+use mathlib.Core.Logic.{_≢_}
 use mathlib.Core.Bool.{Bool, true, false, cond, _||_}
-use mathlib.Core.List.{List, [], _∷_, _++_}
-use Prim.Native.Nat.{ℕ, suc, _+_, _-_, _≤_, _<_}
+use mathlib.Core.List.{List}
+use Prim.Native.Nat.{ℕ, suc, _-_, _≤_, _<_}
 use native.Mathlib.Omega.{arith}
 use lib.Dec.{eqb, ltb}
 use lib.ListN.{length, drop, replicate, length-append, length-replicate}
@@ -15,13 +16,14 @@ use Rattle.search.specs.declared.RouteCost.{RouteCost}
 use Rattle.search.specs.declared.RouteCost.the-variants.{Broken, Cost}
 use Rattle.search.specs.Walk.{routeCost}
 use Rattle.search.specs.Job.{Job, routeEnd}
-use Rattle.search.specs.Rounds.{State, ended, trace, traced, improves, costOr, endRound}
+use Rattle.search.specs.Rounds.{State, ended, traced, improves, costOr, endRound}
 use Rattle.search.specs.Outcome.{routeWords, routeAfter}
 use Rattle.search.proofs.Tools.{same-cases}
 use Rattle.workspace.specs.declared.Size.{Size}
 use Rattle.workspace.specs.Layout.{verticesOf, graphOf}
 use Rattle.incumbent.specs.declared.Traced.{Traced}
-use Rattle.incumbent.specs.Kept.{tracedIn, tracedCost, measured, keptCost, keptRoute}
+use Rattle.incumbent.specs.Kept.{tracedIn, tracedCost, keptCost, keptRoute}
+use Rattle.incumbent.specs.Steps.{measured}
 use Rattle.incumbent.proofs.Laid.{tracedIn-most}
 
 -- ---- the figures of the traced route
@@ -36,6 +38,14 @@ module _ (z : Size) (w : List ℕ) (start goal : ℕ) (t : Traced) (e : t ≡ me
   figures-cost = sym (ap (λ (x : Traced). x .cost) e)
 
 -- ---- whether it becomes the incumbent
+
+pub first-improves : (c : ℕ) (p : Progress) → p .rounds ≡ 0 → true ≡ improves (Cost c) p
+unfolding improves
+first-improves c p h = rw (eq-eqb (p .rounds) 0 h)
+
+pub later-improves : (c : ℕ) (p : Progress) (t : Bool) → p .rounds ≢ 0 → t ≡ ltb c (p .cost) → t ≡ improves (Cost c) p
+unfolding improves
+later-improves c p t h e = rw (ne-eqb (p .rounds) 0 h) e
 
 pub broken-not : (c : RouteCost) (p : Progress) → c ≡ Broken → improves c p ≡ false
 unfolding improves
@@ -61,7 +71,7 @@ over-over : (new older old : List ℕ) → length new ≡ length older → over 
 unfolding over
 over-over new older old e = rw (drop-at older (drop (length older) old) (length new) (sym e), e)
 
-length-words : (v : ℕ) (r : List ℕ) → length r ≤ v → length (routeWords v r) ≡ v
+pub length-words : (v : ℕ) (r : List ℕ) → length r ≤ v → length (routeWords v r) ≡ v
 unfolding routeWords
 length-words v r h =
     length-append r (replicate (v - length r) routeEnd) ∙ omega (arith, length-replicate (v - length r) routeEnd)

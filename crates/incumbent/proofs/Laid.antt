@@ -5,7 +5,7 @@ use mathlib.Core.List.{List, [], _∷_, _++_, append-assoc}
 use Prim.Native.Nat.{ℕ, zero, suc, _+_, _-_, _≤_, _<_}
 use native.Mathlib.Numerals.{add-one}
 use native.Mathlib.Omega.{arith}
-use lib.ListN.{length, getD, set, take, drop, replicate, length-set, length-append, length-drop, length-replicate}
+use lib.ListN.{length, set, drop, replicate, length-set, length-append, length-drop, length-replicate}
 use lib.Seq.{sets, sets-eq, drop-cons, drop-set-lt, getD-set-same, take-at, drop-at, drop-drop}
 use Rattle.graph.specs.Lists.{over}
 use Rattle.search.specs.declared.Vertex.{Vertex}

@@ -4,8 +4,8 @@ use mathlib.Core.Path.{_≡_, refl, sym, ap, _∙_}
 use mathlib.Core.Logic.{_≢_}
 use mathlib.Core.Bool.{Bool, true, false}
 use mathlib.Core.List.{List, [], _∷_}
-use Prim.Native.Nat.{ℕ, zero, suc, _+_, _*_, _-_, _≤_, _<_}
-use native.Mathlib.Nat.{add-assoc, zero-add}
+use Prim.Native.Nat.{ℕ, suc, _+_, _*_, _-_, _≤_, _<_}
+use native.Mathlib.Nat.{add-assoc}
 use native.Mathlib.Numerals.{add-one}
 use native.Mathlib.Omega.{arith}
 use lib.Dec.{eqb}
@@ -22,8 +22,8 @@ use Rattle.search.proofs.Tools.{same-cases}
 use Rattle.workspace.specs.declared.Size.{Size}
 use Rattle.workspace.specs.Layout.{verticesOf, graphOf}
 use Rattle.incumbent.specs.declared.Traced.{Traced}
-use Rattle.incumbent.specs.Kept.{tracedIn, measured}
-use Rattle.incumbent.specs.Steps.{plus, extended, Payable, maxWord, AtMost}
+use Rattle.incumbent.specs.Kept.{tracedIn}
+use Rattle.incumbent.specs.Steps.{measured, plus, extended, Payable, maxWord, AtMost}
 use Rattle.incumbent.proofs.Found.{cost-most}
 
 -- no vertex has no predecessor

@@ -1,18 +1,17 @@
 -- What a finished round does to the incumbent (the kept route) and to route memory, over the words of work memory.
 use Prim.Native.Nat.{ℕ}
 use mathlib.Core.Bool.{cond}
-use mathlib.Core.List.{List, []}
-use lib.ListN.{length, getD}
-use Rattle.graph.specs.declared.Edge.{Edge}
+use mathlib.Core.List.{List, [], _∷_}
+use lib.Dec.{eqb}
 use Rattle.graph.specs.Lists.{over}
 use Rattle.search.specs.declared.Progress.{Progress}
 use Rattle.search.specs.declared.RouteCost.{RouteCost}
+use Rattle.search.specs.Job.{routeEnd}
 use Rattle.search.specs.Walk.{routeCost}
 use Rattle.search.specs.Rounds.{trace, improves, costOr}
 use Rattle.search.specs.Outcome.{routeWords}
 use Rattle.workspace.specs.declared.Size.{Size}
 use Rattle.workspace.specs.Layout.{verticesOf, graphOf}
-use Rattle.incumbent.specs.declared.Traced.{Traced}
 
 -- predecessors traced from the goal, as work memory has them
 unfoldable pub tracedIn : Size → List ℕ → ℕ → ℕ → List ℕ
@@ -22,10 +21,6 @@ tracedIn z w start goal = trace (verticesOf z w) start (z .vertices) goal []
 unfoldable pub tracedCost : Size → List ℕ → ℕ → ℕ → RouteCost
 tracedCost z w start goal = routeCost (graphOf z w) (tracedIn z w start goal)
 
--- vertices by their figures: the first one, their number, and what they are
-unfoldable pub measured : List Edge → List ℕ → Traced
-measured edges r = record { first = getD r 0 0; length = length r; cost = routeCost edges r }
-
 -- the incumbent's cost after a round whose traced route is c
 unfoldable pub keptCost : RouteCost → Progress → ℕ
 keptCost c p = cond (improves c p) (costOr 0 c) (p .cost)
@@ -33,3 +28,8 @@ keptCost c p = cond (improves c p) (costOr 0 c) (p .cost)
 -- route memory after it, where r is the traced route
 unfoldable pub keptRoute : ℕ → RouteCost → List ℕ → Progress → List ℕ → List ℕ
 keptRoute v c r p old = cond (improves c p) (over (routeWords v r) old) old
+
+-- a route in memory ends before its first 4,294,967,295, or with its slice
+unfoldable pub upToEnd : List ℕ → List ℕ
+upToEnd [] = []
+upToEnd (x ∷ r) = cond (eqb x routeEnd) [] (x ∷ upToEnd r)

@@ -2,12 +2,13 @@
 use Prim.Native.Nat.{ℕ, zero, suc, _+_, _*_, _≤_}
 use mathlib.Core.Path.{_≡_}
 use mathlib.Core.List.{List, _∷_}
+use lib.ListN.{length, getD}
 use Rattle.graph.specs.declared.Edge.{Edge}
 use Rattle.search.specs.declared.Vertex.{Vertex}
 use Rattle.search.specs.declared.RouteCost.{RouteCost}
 use Rattle.search.specs.declared.RouteCost.the-variants.{Broken, Cost}
 use Rattle.search.specs.Job.{at}
-use Rattle.search.specs.Walk.{edgeCost}
+use Rattle.search.specs.Walk.{edgeCost, routeCost}
 use Rattle.incumbent.specs.declared.Traced.{Traced}
 
 -- the first cost that is found
@@ -20,6 +21,10 @@ unfoldable pub plus : RouteCost → RouteCost → RouteCost
 plus Broken y = Broken
 plus (Cost c) Broken = Broken
 plus (Cost c) (Cost n) = Cost (c + n)
+
+-- vertices by their figures: the first one, their number, and what they are
+unfoldable pub measured : List Edge → List ℕ → Traced
+measured edges r = record { first = getD r 0 0; length = length r; cost = routeCost edges r }
 
 -- one vertex before those that are traced
 unfoldable pub extended : List Edge → ℕ → Traced → Traced

@@ -1,8 +1,8 @@
 // The trace of predecessors laid into route memory.
 ghost use mathlib.Core.Path.{_≡_};
-ghost use mathlib.Core.List.{[], _++_};
+ghost use mathlib.Core.List.{[]};
 ghost use Prim.Native.Nat.{_-_, _<_, _≤_};
-ghost use lib.ListN.{length, set, drop, replicate};
+ghost use lib.ListN.{length, set, replicate};
 ghost use lib.Seq.{sets};
 ghost use Rattle.graph.specs.Lists.{over};
 ghost use Rattle.search.specs.Job.{at, routeEnd};

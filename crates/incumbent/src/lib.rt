@@ -1,8 +1,9 @@
 // What a finished round does to the incumbent (the kept route): the trace of predecessors from the goal,
 // what it costs, and route memory.
 pub mod edges;
-pub mod laying;
-pub mod tracing;
+pub mod kept;
+mod laying;
+mod tracing;
 
 ghost use mathlib.Core.Path.{_≡_};
 ghost use Prim.Native.Nat.{_<_, _≤_};
@@ -19,14 +20,14 @@ use workspace::Size;
 pub const ROUTE_END: u32 = 4294967295;
 
 // Vertices that a trace has so far: the first of them, their number, and what they are over the edges.
-pub struct Traced {
-    pub first: u32,
-    pub length: u32,
-    pub cost: RouteCost,
+struct Traced {
+    first: u32,
+    length: u32,
+    cost: RouteCost,
 }
 
 // Whether a route of the cost c becomes the incumbent: none is kept yet, or it is strictly cheaper.
-pub fn improves(c: u64, p: Progress) -> bool
+fn improves(c: u64, p: Progress) -> bool
     ensures { λ r. ⌜ r ≡ improves (Cost c) p ⌝ }
 {
     if p.rounds == 0 {

@@ -1,5 +1,5 @@
 -- `keep` meets its contract. Assumes nothing.
-use mathlib.Core.Path.{_≡_, sym, ap, _∙_}
+use mathlib.Core.Path.{sym, ap, _∙_}
 use Rattle.search.specs.declared.RouteCost.{RouteCost}
 use Rattle.search.specs.Rounds.{improves}
 use Rattle.incumbent.specs.Kept.{tracedIn, tracedCost}

@@ -1,5 +1,5 @@
 -- `look` meets its contract. Assumes nothing.
-use mathlib.Core.Path.{_≡_, refl, sym, ap, _∙_}
+use mathlib.Core.Path.{refl, sym, ap, _∙_}
 use native.Mathlib.Omega.{arith}
 use Rattle.graph.specs.declared.Edge.{Edge}
 use Rattle.search.specs.declared.RouteCost.the-variants.{Cost}

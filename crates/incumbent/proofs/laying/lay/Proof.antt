@@ -19,7 +19,8 @@ put-all-requires c κs =
 fill-requires : tie.Need-fill-requires
 fill-requires c κs =
     let s = c .before .before .before .before .before .before .before in
-    (omega (arith, s .pre .2, tracedIn-most (s .args .z) (s .args .work .now) (s .args .start) (s .args .goal)), search needs)
+    let m = tracedIn-most (s .args .z) (s .args .work .now) (s .args .start) (s .args .goal) in
+    (omega (arith, s .pre .2), omega (arith, s .pre .1, s .pre .2))
 
 -- src/laying.rt:52:1
 same-length : tie.Need-same-length
