@@ -7,13 +7,14 @@ use mathlib.Core.List.{List, [], _∷_, _++_}
 use native.Mathlib.Numerals.{add-one}
 use native.Mathlib.Omega.{arith}
 use borrow.Author.Tests.{lt-ltb, le-ltb, eq-eqb, ne-eqb}
-use lib.Dec.{ltb, eqb}
-use lib.ListN.{length, set, length-set}
+use lib.Dec.{eqb}
+use lib.ListN.{length, set}
 use Rattle.graph.specs.declared.Edge.{Edge}
 use Rattle.search.specs.declared.Vertex.{Vertex}
 use Rattle.search.specs.Job.{at}
 use Rattle.search.specs.Turn.{lowered, relax, relaxAll, marked, expand}
-use Rattle.search.proofs.Tools.{cond-ind, cond-true, cond-false, same-cases}
+use Rattle.search.proofs.Moves.{length-relax, length-relaxAll}
+use Rattle.search.proofs.Tools.{cond-true, cond-false, same-cases}
 use Rattle.workspace.specs.declared.Size.{Size}
 use Rattle.workspace.specs.Layout.{verticesOf, written, firstOf, edgeAt, edgesRun, edgesAt, edgesUnder, graphOf, Fits, Ready}
 use Rattle.workspace.proofs.Written.{length-verticesOf, verticesOf-written, written-written, length-stored, loaded-of, ready-loaded, graphOf-written, ready-kept, length-kept, edge-kept, then-vertices, then-kept}
@@ -27,26 +28,6 @@ fits-marked i x f = record { g = f .g; v = f .g }
 pub fits-lowered : (c s : ℕ) (x : Vertex) → Fits x → c < x .g → Fits (lowered c s x)
 unfolding lowered
 fits-lowered c s x f h = record { g = omega (arith, f .g); v = f .v }
-
--- ---- the number of vertices stays
-
-pub length-relax : (s c : ℕ) (e : Edge) (st : List Vertex) → length (relax s c e st) ≡ length st
-unfolding relax
-length-relax s c e st =
-    cond-ind (λ (r : List Vertex). length r ≡ length st) (ltb (c + e .cost) (at st (e .head) .g))
-    (λ t. length-set st (e .head) (lowered (c + e .cost) s (at st (e .head)))) (λ t. refl)
-
-pub length-relaxAll : (s c : ℕ) (es : List Edge) (st : List Vertex) → length (relaxAll s c es st) ≡ length st
-unfolding relaxAll
-length-relaxAll s c [] st = refl
-length-relaxAll s c (e ∷ es) st =
-    length-relaxAll s c es (cond (eqb (e .tail) s) (relax s c e st) st)
-    ∙ cond-ind (λ (r : List Vertex). length r ≡ length st) (eqb (e .tail) s) (λ t. length-relax s c e st) (λ t. refl)
-
-pub length-expand : (es : List Edge) (i s : ℕ) (st : List Vertex) → length (expand es i s st) ≡ length st
-unfolding expand
-length-expand es i s st =
-    length-relaxAll s (at st s .g) es (set st s (marked i (at st s))) ∙ length-set st s (marked i (at st s))
 
 -- ---- one edge
 

@@ -84,11 +84,6 @@ pub over-none : (w : List ℕ) → over (vertexWords []) w ≡ w
 unfolding over vertexWords
 over-none w = refl
 
-pub length-words : (st : List Vertex) → length (vertexWords st) ≡ 4 * length st
-unfolding vertexWords
-length-words [] = refl
-length-words (p ∷ ps) = omega (arith, length-words ps)
-
 pub length-over : (st : List Vertex) (w : List ℕ) → 4 * length st ≤ length w → length (over (vertexWords st) w) ≡ length w
 length-over [] w h = ap length (over-none w)
 length-over (p ∷ ps) w h =
