@@ -1,0 +1,1 @@
+-- The laws that other crates may cite.

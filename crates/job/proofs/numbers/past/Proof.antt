@@ -1,0 +1,63 @@
+use Rattle.job.proofs.numbers.past.Statement.{statement}
+use Rattle.job.proofs.numbers.past.Tie as tie
+use Rattle.job.proofs.numbers.past.Reads as reads
+use Rattle.job.proofs.numbers.past.Lts as lts
+use Rattle.leb128.proofs.read_job_number.Reads as read-job-number-reads
+
+abbrev Inv-loop : tie.InvT-loop
+Inv-loop job at count end₀ left₀ end left = ?
+
+abbrev μ-loop : tie.MeasureT-loop
+μ-loop job at count end₀ left₀ end left = ?
+
+-- src/numbers.rt:18:5
+loop-holds : tie.Need-loop-holds Inv-loop μ-loop
+loop-holds c = ?
+
+-- src/numbers.rt:19:42
+read-job-number-requires : tie.Need-read-job-number-requires Inv-loop μ-loop
+read-job-number-requires c κs = ?
+
+-- src/numbers.rt:19:34
+enum-known-next : tie.Need-enum-known-next Inv-loop μ-loop
+enum-known-next c = ?
+
+-- src/numbers.rt:20:13
+enum-told : tie.Need-enum-told Inv-loop μ-loop
+enum-told c = ?
+
+-- src/numbers.rt:20:13
+returns : tie.Need-returns Inv-loop μ-loop
+returns c = ?
+
+-- src/numbers.rt:23:9
+sub-left : tie.Need-sub-left Inv-loop μ-loop
+sub-left c = ?
+
+-- src/numbers.rt:18:5
+loop-less : tie.Need-loop-less Inv-loop μ-loop
+loop-less c = ?
+
+-- src/numbers.rt:18:5
+loop-again : tie.Need-loop-again Inv-loop μ-loop
+loop-again c = ?
+
+-- src/numbers.rt:13:1
+returns-2 : tie.Need-returns-2 Inv-loop μ-loop
+returns-2 c = ?
+
+pub past-spec : {M : Type 1} → statement M
+past-spec =
+    tie.close
+    (tie.spec
+    Inv-loop
+    μ-loop
+    loop-holds
+    read-job-number-requires
+    enum-known-next
+    enum-told
+    returns
+    sub-left
+    loop-less
+    loop-again
+    returns-2)
