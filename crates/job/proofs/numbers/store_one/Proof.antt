@@ -1,3 +1,5 @@
+-- `store_one` meets its contract. Assumes nothing.
+use mathlib.Core.Path.{sym, _∙_}
 use borrow.Author.Needs.{needs}
 use Rattle.job.proofs.numbers.store_one.Statement.{statement}
 use Rattle.job.proofs.numbers.store_one.Tie as tie
@@ -19,7 +21,7 @@ enum-told c = search needs
 
 -- src/numbers.rt:35:9
 returns : tie.Need-returns
-returns c = ?
+returns c = let e = sym (c .before .before .read-job-number .ensures) ∙ c .enum-told .given .1 in (rw e, rw e)
 
 -- src/numbers.rt:37:5
 mul-into : tie.Need-mul-into
@@ -35,7 +37,8 @@ same-length c = search needs
 
 -- src/numbers.rt:29:1
 returns-2 : tie.Need-returns-2
-returns-2 c = ?
+returns-2 c =
+    let e = sym (c .before .before .before .read-job-number .ensures) ∙ c .before .value .given .1 in (rw e, rw e)
 
 pub store-one-spec : {M : Type 1} → statement M
 store-one-spec =

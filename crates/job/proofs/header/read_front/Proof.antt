@@ -1,0 +1,57 @@
+use borrow.Author.Needs.{needs}
+use Rattle.job.proofs.header.read_front.Statement.{statement}
+use Rattle.job.proofs.header.read_front.Tie as tie
+use Rattle.job.proofs.header.read_front.Reads as reads
+use Rattle.job.proofs.header.read_front.Lts as lts
+use Rattle.job.proofs.header.read_ends.Reads as read-ends-reads
+use Rattle.leb128.proofs.read_job_number.Reads as read-job-number-reads
+
+-- src/header.rt:72:41
+read-job-number-requires : tie.Need-read-job-number-requires
+read-job-number-requires c κs = search needs
+
+-- src/header.rt:72:27
+enum-known-size : tie.Need-enum-known-size
+enum-known-size c = search needs
+
+-- src/header.rt:73:9
+enum-told : tie.Need-enum-told
+enum-told c = search needs
+
+-- src/header.rt:73:9
+returns : tie.Need-returns
+returns c = ?
+
+-- src/header.rt:75:22
+cast-end : tie.Need-cast-end
+cast-end c = search needs
+
+-- src/header.rt:75:15
+add-end : tie.Need-add-end
+add-end c = ?
+
+-- src/header.rt:77:9
+returns-2 : tie.Need-returns-2
+returns-2 c = ?
+
+-- src/header.rt:79:5
+read-ends-requires : tie.Need-read-ends-requires
+read-ends-requires c κs = search needs
+
+-- src/header.rt:69:1
+returns-3 : tie.Need-returns-3
+returns-3 c = ?
+
+pub read-front-spec : {M : Type 1} → statement M
+read-front-spec =
+    tie.close
+    (tie.spec
+    read-job-number-requires
+    enum-known-size
+    enum-told
+    returns
+    cast-end
+    add-end
+    returns-2
+    read-ends-requires
+    returns-3)
