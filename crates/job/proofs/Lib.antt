@@ -1,2 +1,4 @@
 -- The laws that other crates may cite.
 pub mod Values
+pub mod Following
+pub mod Accepted

@@ -1,3 +1,5 @@
+-- `read_plan` meets its contract, by the plan's cases. Assumes nothing.
+use Rattle.job.specs.Reading.{afterPlan}
 use borrow.Author.Needs.{needs}
 use Rattle.job.proofs.read_plan.Statement.{statement}
 use Rattle.job.proofs.read_plan.Tie as tie
@@ -19,11 +21,13 @@ enum-known-checked-2 c = search needs
 
 -- src/lib.rt:77:1
 returns : tie.Need-returns
-returns c = ?
+unfolding afterPlan
+returns c = rw (c .before .before .checked .given .1) (c .read-tables .ensures)
 
 -- src/lib.rt:77:1
 returns-2 : tie.Need-returns-2
-returns-2 c = ?
+unfolding afterPlan
+returns-2 c = rw (c .before .checked2 .given .1)
 
 pub read-plan-spec : {M : Type 1} → statement M
 read-plan-spec =

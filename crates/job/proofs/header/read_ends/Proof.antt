@@ -1,3 +1,6 @@
+-- `read_ends` meets its contract: start, goal and budget, one after another. Assumes nothing.
+use Rattle.job.specs.Reading.{ends}
+use Rattle.job.proofs.Following.{follows, follows-none}
 use borrow.Author.Needs.{needs}
 use Rattle.job.proofs.header.read_ends.Statement.{statement}
 use Rattle.job.proofs.header.read_ends.Tie as tie
@@ -20,7 +23,8 @@ enum-told c = search needs
 
 -- src/header.rt:57:9
 returns : tie.Need-returns
-returns c = ?
+unfolding ends
+returns c = follows-none _ _ _ (c .before .before .read-job-number .ensures) _ (c .enum-told .given .1)
 
 -- src/header.rt:59:46
 read-job-number-requires-2 : tie.Need-read-job-number-requires-2
@@ -36,7 +40,8 @@ enum-told-2 c = search needs
 
 -- src/header.rt:60:9
 returns-2 : tie.Need-returns-2
-returns-2 c = ?
+unfolding ends
+returns-2 c = follows _ _ _ (c .before .before .before .before .before .before .read-job-number .ensures) _ _ _ (c .before .before .before .before .start .given .1) (follows-none _ _ _ (c .before .before .read-job-number2 .ensures) _ (c .enum-told2 .given .1))
 
 -- src/header.rt:62:41
 read-job-number-requires-3 : tie.Need-read-job-number-requires-3
@@ -52,7 +57,8 @@ enum-told-3 c = search needs
 
 -- src/header.rt:63:9
 returns-3 : tie.Need-returns-3
-returns-3 c = ?
+unfolding ends
+returns-3 c = follows _ _ _ (c .before .before .before .before .before .before .before .before .before .before .read-job-number .ensures) _ _ _ (c .before .before .before .before .before .before .before .before .start .given .1) (follows _ _ _ (c .before .before .before .before .before .before .read-job-number2 .ensures) _ _ _ (c .before .before .before .before .goal .given .1) (follows-none _ _ _ (c .before .before .read-job-number3 .ensures) _ (c .enum-told3 .given .1)))
 
 -- src/header.rt:65:5
 read-rounds-requires : tie.Need-read-rounds-requires
@@ -60,7 +66,8 @@ read-rounds-requires c κs = search needs
 
 -- src/header.rt:53:1
 returns-4 : tie.Need-returns-4
-returns-4 c = ?
+unfolding ends
+returns-4 c = follows _ _ _ (c .before .before .before .before .before .before .before .before .before .before .before .before .read-job-number .ensures) _ _ _ (c .before .before .before .before .before .before .before .before .before .before .start .given .1) (follows _ _ _ (c .before .before .before .before .before .before .before .before .read-job-number2 .ensures) _ _ _ (c .before .before .before .before .before .before .goal .given .1) (follows _ _ _ (c .before .before .before .before .read-job-number3 .ensures) _ _ _ (c .before .before .budget .given .1) (c .read-rounds .ensures)))
 
 pub read-ends-spec : {M : Type 1} → statement M
 read-ends-spec =

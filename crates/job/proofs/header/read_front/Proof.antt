@@ -1,3 +1,11 @@
+-- `read_front` meets its contract: the plan's place, then what follows. Assumes nothing.
+use mathlib.Core.Path.{sym, _∙_}
+use native.Mathlib.Omega.{arith}
+use borrow.Author.Tests.{lt-ltb, le-ltb}
+use Rattle.leb128.specs.Number.{jobGroups}
+use Rattle.leb128.proofs.Laws.{value-within}
+use Rattle.job.specs.Reading.{front}
+use Rattle.job.proofs.Following.{follows, follows-none, holds, fails}
 use borrow.Author.Needs.{needs}
 use Rattle.job.proofs.header.read_front.Statement.{statement}
 use Rattle.job.proofs.header.read_front.Tie as tie
@@ -20,7 +28,8 @@ enum-told c = search needs
 
 -- src/header.rt:73:9
 returns : tie.Need-returns
-returns c = ?
+unfolding front
+returns c = follows-none _ _ _ (c .before .before .read-job-number .ensures) _ (c .enum-told .given .1)
 
 -- src/header.rt:75:22
 cast-end : tie.Need-cast-end
@@ -28,11 +37,13 @@ cast-end c = search needs
 
 -- src/header.rt:75:15
 add-end : tie.Need-add-end
-add-end c = ?
+unfolding jobGroups
+add-end c = record { fits = omega (arith, value-within _ _ _ _ _ (sym (c .before .before .before .read-job-number .ensures) ∙ c .before .size .given .1) .few) }
 
 -- src/header.rt:77:9
 returns-2 : tie.Need-returns-2
-returns-2 c = ?
+unfolding front
+returns-2 c = follows _ _ _ (c .before .before .before .before .read-job-number .ensures) _ _ _ (c .before .before .size .given .1) (holds _ _ _ (lt-ltb _ _ (c .if1 .taken)))
 
 -- src/header.rt:79:5
 read-ends-requires : tie.Need-read-ends-requires
@@ -40,7 +51,8 @@ read-ends-requires c κs = search needs
 
 -- src/header.rt:69:1
 returns-3 : tie.Need-returns-3
-returns-3 c = ?
+unfolding front
+returns-3 c = follows _ _ _ (c .before .before .before .before .before .read-job-number .ensures) _ _ _ (c .before .before .before .size .given .1) (fails _ _ _ _ (le-ltb _ _ (c .before .if1 .left)) (c .read-ends .ensures))
 
 pub read-front-spec : {M : Type 1} → statement M
 read-front-spec =

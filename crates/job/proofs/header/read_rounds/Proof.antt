@@ -1,3 +1,8 @@
+-- `read_rounds` meets its contract: rounds, factors and the guide count, one after another. Assumes nothing.
+use mathlib.Core.Path.{refl}
+use borrow.Author.Tests.{lt-ltb, le-ltb}
+use Rattle.job.specs.Reading.{rounds}
+use Rattle.job.proofs.Following.{follows, follows-none, passes, passes-none, holds, fails}
 use borrow.Author.Needs.{needs}
 use Rattle.job.proofs.header.read_rounds.Statement.{statement}
 use Rattle.job.proofs.header.read_rounds.Tie as tie
@@ -20,11 +25,13 @@ enum-told c = search needs
 
 -- src/header.rt:25:9
 returns : tie.Need-returns
-returns c = ?
+unfolding rounds
+returns c = follows-none _ _ _ (c .before .before .read-job-number .ensures) _ (c .enum-told .given .1)
 
 -- src/header.rt:28:9
 returns-2 : tie.Need-returns-2
-returns-2 c = ?
+unfolding rounds
+returns-2 c = follows _ _ _ (c .before .before .before .before .read-job-number .ensures) _ _ _ (c .before .before .rounds .given .1) (holds _ _ _ (lt-ltb _ _ (c .if1 .taken)))
 
 -- src/header.rt:30:72
 cast-past : tie.Need-cast-past
@@ -48,7 +55,8 @@ enum-told-2 c = search needs
 
 -- src/header.rt:31:9
 returns-3 : tie.Need-returns-3
-returns-3 c = ?
+unfolding rounds
+returns-3 c = follows _ _ _ (c .before .before .before .before .before .before .before .read-job-number .ensures) _ _ _ (c .before .before .before .before .before .rounds .given .1) (fails _ _ _ _ (le-ltb _ _ (c .before .before .before .if1 .left)) (passes-none _ _ _ (c .before .before .past .ensures) (c .enum-told2 .given .1)))
 
 -- src/header.rt:33:45
 read-job-number-requires-2 : tie.Need-read-job-number-requires-2
@@ -64,15 +72,18 @@ enum-told-3 c = search needs
 
 -- src/header.rt:34:9
 returns-4 : tie.Need-returns-4
-returns-4 c = ?
+unfolding rounds
+returns-4 c = follows _ _ _ (c .before .before .before .before .before .before .before .before .before .before .before .read-job-number .ensures) _ _ _ (c .before .before .before .before .before .before .before .before .before .rounds .given .1) (fails _ _ _ _ (le-ltb _ _ (c .before .before .before .before .before .before .before .if1 .left)) (passes _ _ _ (c .before .before .before .before .before .before .past .ensures) _ _ (c .before .before .before .before .guides-at .given .1) (follows-none _ _ _ (c .before .before .read-job-number2 .ensures) _ (c .enum-told3 .given .1))))
 
 -- src/header.rt:37:9
 returns-5 : tie.Need-returns-5
-returns-5 c = ?
+unfolding rounds
+returns-5 c = follows _ _ _ (c .before .before .before .before .before .before .before .before .before .before .before .before .before .read-job-number .ensures) _ _ _ (c .before .before .before .before .before .before .before .before .before .before .before .rounds .given .1) (fails _ _ _ _ (le-ltb _ _ (c .before .before .before .before .before .before .before .before .before .if1 .left)) (passes _ _ _ (c .before .before .before .before .before .before .before .before .past .ensures) _ _ (c .before .before .before .before .before .before .guides-at .given .1) (follows _ _ _ (c .before .before .before .before .read-job-number2 .ensures) _ _ _ (c .before .before .guides .given .1) (holds _ _ _ (lt-ltb _ _ (c .if2 .taken))))))
 
 -- src/header.rt:13:1
 returns-6 : tie.Need-returns-6
-returns-6 c = ?
+unfolding rounds
+returns-6 c = follows _ _ _ (c .before .before .before .before .before .before .before .before .before .before .before .before .before .read-job-number .ensures) _ _ _ (c .before .before .before .before .before .before .before .before .before .before .before .rounds .given .1) (fails _ _ _ _ (le-ltb _ _ (c .before .before .before .before .before .before .before .before .before .if1 .left)) (passes _ _ _ (c .before .before .before .before .before .before .before .before .past .ensures) _ _ (c .before .before .before .before .before .before .guides-at .given .1) (follows _ _ _ (c .before .before .before .before .read-job-number2 .ensures) _ _ _ (c .before .before .guides .given .1) (fails _ _ _ _ (le-ltb _ _ (c .if2 .left)) refl))))
 
 pub read-rounds-spec : {M : Type 1} → statement M
 read-rounds-spec =

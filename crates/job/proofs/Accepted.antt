@@ -1,0 +1,111 @@
+-- What is known of the front of a job that was read whole, and of a job that was accepted.
+-- Assumes nothing.
+use Prim.Native.Nat.{ℕ, _+_, _*_, _≤_}
+use native.Mathlib.Omega.{arith}
+use mathlib.Core.Path.{_≡_, refl, sym, ap, _∙_}
+use mathlib.Core.Bool.{Bool, true, false, cond, _||_}
+use mathlib.Core.List.{List}
+use lib.ListN.{length}
+use lib.Dec.{ltb}
+use borrow.Author.Tests.{ltb-false}
+use Rattle.leb128.specs.Number.{read, jobGroups}
+use Rattle.graph.specs.declared.PlanRead.{PlanRead}
+use Rattle.graph.specs.declared.PlanRead.the-variants as checked
+use Rattle.graph.specs.Plan.{decode, sizes}
+use Rattle.graph.proofs.Tests.{or-left, or-right}
+use Rattle.job.specs.declared.Front.{Front}
+use Rattle.job.specs.declared.NumbersRead.{NumbersRead}
+use Rattle.job.specs.declared.NumbersRead.the-variants.{Past, Malformed}
+use Rattle.job.specs.declared.FrontRead.{FrontRead}
+use Rattle.job.specs.declared.FrontRead.the-variants.{Whole, Broken}
+use Rattle.job.specs.declared.JobRead.{JobRead}
+use Rattle.job.specs.declared.JobRead.the-variants.{Accepted, Refused}
+use Rattle.job.specs.Numbers.{endOf, values}
+use Rattle.job.specs.Reading.{maxRounds, maxGuides, maxVertices, maxEdges, rounds, ends, front, planOf, tableCount, afterTables, afterSizes, afterPlan, afterFront, jobRead, scheduleOf, tablesOf}
+use Rattle.job.proofs.Values.{length-values}
+use Rattle.job.proofs.Following.{whole-following, whole-past, whole-cond}
+
+-- ---- the front
+
+-- rounds and guides are few, and every factor is there
+pub record Rounds (s : List ℕ) (plan end : ℕ) (f : Front) : Type 0 where
+  pub at : f .plan ≡ plan
+  pub to : f .end ≡ end
+  pub rounds : f .rounds ≤ maxRounds
+  pub guides : f .guides ≤ maxGuides
+  pub schedule : length (scheduleOf s f) ≡ 2 * f .rounds
+
+module _ (s : List ℕ) (plan end : ℕ) (f : Front) where
+  whole-as :
+      (start goal budget r at g tables next : ℕ) → ltb maxRounds r ≡ false → endOf (2 * r) s at ≡ Past next → ltb maxGuides g ≡ false →
+      Whole (record { plan = plan; end = end; start = start; goal = goal; budget = budget; rounds = r; factors = at; guides = g; tables = tables }) ≡ Whole f →
+      Rounds s plan end f
+  unfolding scheduleOf
+  whole-as start goal budget r at g tables next few all less h =
+      let e : record { plan = plan; end = end; start = start; goal = goal; budget = budget; rounds = r; factors = at; guides = g; tables = tables } ≡ f = cc in
+      let er : r ≡ f .rounds = ap (λ (x : Front). x .rounds) e in
+      let eg : g ≡ f .guides = ap (λ (x : Front). x .guides) e in
+      let ea : at ≡ f .factors = ap (λ (x : Front). x .factors) e in
+      record {
+        at = sym (ap (λ (x : Front). x .plan) e);
+        to = sym (ap (λ (x : Front). x .end) e);
+        rounds = omega (arith, ltb-false maxRounds r few);
+        guides = omega (arith, ltb-false maxGuides g less);
+        schedule = rw (sym er, sym ea) (length-values s next (2 * r) at all);
+      }
+
+  rounds-whole : (start goal budget at : ℕ) → rounds s plan end start goal budget at ≡ Whole f → Rounds s plan end f
+  unfolding rounds
+  rounds-whole start goal budget at h =
+      whole-following f _ (read jobGroups s at) h
+      (λ r factors _ h₁. whole-cond f (ltb maxRounds r) _ h₁
+      (λ few h₂. whole-past f _ (endOf (2 * r) s factors) h₂
+      (λ next all h₃. whole-following f _ (read jobGroups s next) h₃
+      (λ g tables _ h₄. whole-cond f (ltb maxGuides g) _ h₄
+      (λ less h₅. whole-as start goal budget r factors g tables next few all less h₅)))))
+
+  ends-whole : ends s plan end ≡ Whole f → Rounds s plan end f
+  unfolding ends
+  ends-whole h =
+      whole-following f _ (read jobGroups s end) h
+      (λ start goalAt _ h₁. whole-following f _ (read jobGroups s goalAt) h₁
+      (λ goal budgetAt _ h₂. whole-following f _ (read jobGroups s budgetAt) h₂
+      (λ budget at _ h₃. rounds-whole start goal budget at h₃)))
+
+-- the plan is a part of the job's bytes
+pub record Fits (s : List ℕ) (f : Front) : Type 0 where
+  pub plan : f .plan ≤ f .end
+  pub end : f .end ≤ length s
+  pub rounds : f .rounds ≤ maxRounds
+  pub guides : f .guides ≤ maxGuides
+  pub schedule : length (scheduleOf s f) ≡ 2 * f .rounds
+
+pub front-fits : (s : List ℕ) (f : Front) → front s ≡ Whole f → Fits s f
+unfolding front
+front-fits s f h =
+    whole-following f _ (read jobGroups s 0) h
+    (λ size plan _ h₁. whole-cond f (ltb (length s) (plan + size)) _ h₁
+    (λ there h₂.
+    let r : Rounds s plan (plan + size) f = ends-whole s plan (plan + size) f h₂ in
+    record {
+      plan = omega arith;
+      end = omega (arith, ltb-false (length s) (plan + size) there);
+      rounds = r .rounds;
+      guides = r .guides;
+      schedule = r .schedule;
+    }))
+
+-- ---- the job
+
+-- it fits the limits, and every table is there
+pub record Ready (s : List ℕ) (f : Front) (v : ℕ) : Type 0 where
+  pub fits : Fits s f
+  pub edges : ℕ
+  pub sizes : sizes (decode (planOf s f)) ≡ checked.Sizes v edges
+  pub vertices : v ≤ maxVertices
+  pub few : edges ≤ maxEdges
+  pub tables : length (tablesOf s f v) ≡ tableCount f v
+
+module _ (s : List ℕ) (f : Front) (v : ℕ) where
+  never : {A : Type 0} (n p : ℕ) → Refused n p ≡ Accepted f v → A
+  never n p h = let z : _≡_ {A = ℕ} 0 1 = cc in absurd (omega arith)
