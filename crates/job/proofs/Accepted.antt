@@ -21,7 +21,7 @@ use Rattle.job.specs.declared.FrontRead.the-variants.{Whole, Broken}
 use Rattle.job.specs.declared.JobRead.{JobRead}
 use Rattle.job.specs.declared.JobRead.the-variants.{Accepted, Refused}
 use Rattle.job.specs.Numbers.{endOf, values}
-use Rattle.job.specs.Reading.{maxRounds, maxGuides, maxVertices, maxEdges, rounds, ends, front, planOf, tableCount, afterTables, afterSizes, afterPlan, afterFront, jobRead, scheduleOf, tablesOf}
+use Rattle.job.specs.Reading.{maxBytes, maxRounds, maxGuides, maxVertices, maxEdges, rounds, ends, front, planOf, tableCount, afterTables, afterSizes, afterPlan, afterFront, jobRead, scheduleOf, tablesOf}
 use Rattle.job.proofs.Values.{length-values}
 use Rattle.job.proofs.Following.{whole-following, whole-past, whole-cond}
 
@@ -109,3 +109,51 @@ pub record Ready (s : List ℕ) (f : Front) (v : ℕ) : Type 0 where
 module _ (s : List ℕ) (f : Front) (v : ℕ) where
   never : {A : Type 0} (n p : ℕ) → Refused n p ≡ Accepted f v → A
   never n p h = let z : _≡_ {A = ℕ} 0 1 = cc in absurd (omega arith)
+
+  module _ (g : Front) where
+    same-by : (w : ℕ) (b : Bool) → cond b (Refused 14 0) (Accepted g w) ≡ Accepted f v → (g ≡ f) × (w ≡ v)
+    same-by w true h = never 14 0 h
+    same-by w false h = (cc, cc)
+
+    -- the tables are there
+    tables-by : (w : ℕ) (r : NumbersRead) → afterTables s g w r ≡ Accepted f v → (g ≡ f) × (w ≡ v) × ((end : ℕ) × (r ≡ Past end))
+    unfolding afterTables
+    tables-by w (Past end) h = let e : (g ≡ f) × (w ≡ v) = same-by w (ltb end (length s)) h in (e .0, e .1, (end, refl))
+    tables-by w Malformed h = never 14 0 h
+
+    module _ (whole : front s ≡ Whole g) where
+      -- V and M are small
+      sizes-by :
+          (w m : ℕ) (b : Bool) → sizes (decode (planOf s g)) ≡ checked.Sizes w m → (ltb maxVertices w || ltb maxEdges m) ≡ b →
+          cond b (Refused 14 0) (afterTables s g w (endOf (tableCount g w) s (g .tables))) ≡ Accepted f v → Ready s f v
+      unfolding tablesOf
+      sizes-by w m true z o h = never 14 0 h
+      sizes-by w m false z o h =
+          let e = tables-by w (endOf (tableCount g w) s (g .tables)) h in
+          rw (sym (e .0), sym (e .1))
+          (record {
+            fits = front-fits s g whole;
+            edges = m;
+            sizes = z;
+            vertices = ltb-false maxVertices w (or-left (ltb maxVertices w) (ltb maxEdges m) o);
+            few = ltb-false maxEdges m (or-right (ltb maxVertices w) (ltb maxEdges m) o);
+            tables = length-values s (e .2 .0) (tableCount g w) (g .tables) (e .2 .1);
+          })
+
+      plan-by : (p : PlanRead) → sizes (decode (planOf s g)) ≡ p → afterPlan s g p ≡ Accepted f v → Ready s f v
+      unfolding afterPlan afterSizes
+      plan-by (checked.Sizes w m) z h = sizes-by w m (ltb maxVertices w || ltb maxEdges m) z refl h
+      plan-by (checked.Refused n p) z h = never n p h
+
+  front-by : (r : FrontRead) → front s ≡ r → afterFront s r ≡ Accepted f v → Ready s f v
+  unfolding afterFront
+  front-by (Whole g) e h = plan-by g e (sizes (decode (planOf s g))) refl h
+  front-by Broken e h = never 14 0 h
+
+  size-by : (b : Bool) → cond b (Refused 14 0) (afterFront s (front s)) ≡ Accepted f v → Ready s f v
+  size-by true h = never 14 0 h
+  size-by false h = front-by (front s) refl h
+
+  pub accepted-ready : jobRead s ≡ Accepted f v → Ready s f v
+  unfolding jobRead
+  accepted-ready h = size-by (ltb maxBytes (length s)) h

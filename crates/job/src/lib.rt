@@ -2,6 +2,7 @@
 // guide count, anchor table, guide sheets.
 mod header;
 pub mod numbers;
+
 ghost use Prim.Native.Nat.{_≤_};
 ghost use mathlib.Core.Path.{_≡_};
 ghost use lib.ListN.{length};
