@@ -21,7 +21,8 @@ use Rattle.job.specs.declared.FrontRead.the-variants.{Whole, Broken}
 use Rattle.job.specs.declared.JobRead.{JobRead}
 use Rattle.job.specs.declared.JobRead.the-variants.{Accepted, Refused}
 use Rattle.job.specs.Numbers.{endOf, values}
-use Rattle.job.specs.Reading.{maxBytes, maxRounds, maxGuides, maxVertices, maxEdges, rounds, ends, front, planOf, tableCount, afterTables, afterSizes, afterPlan, afterFront, jobRead, scheduleOf, tablesOf}
+use Rattle.job.specs.Reading.{maxBytes, maxRounds, maxGuides, maxVertices, maxEdges, rounds, ends, front, planOf, tableCount, afterTables, afterSizes, afterPlan, afterFront, jobRead}
+use Rattle.job.specs.Asked.{scheduleOf, tablesOf}
 use Rattle.job.proofs.Values.{length-values}
 use Rattle.job.proofs.Following.{whole-following, whole-past, whole-cond}
 
@@ -57,19 +58,19 @@ module _ (s : List ℕ) (plan end : ℕ) (f : Front) where
   rounds-whole : (start goal budget at : ℕ) → rounds s plan end start goal budget at ≡ Whole f → Rounds s plan end f
   unfolding rounds
   rounds-whole start goal budget at h =
-      whole-following f _ (read jobGroups s at) h
+      whole-following f (read jobGroups s at) _ h
       (λ r factors _ h₁. whole-cond f (ltb maxRounds r) _ h₁
-      (λ few h₂. whole-past f _ (endOf (2 * r) s factors) h₂
-      (λ next all h₃. whole-following f _ (read jobGroups s next) h₃
+      (λ few h₂. whole-past f (endOf (2 * r) s factors) _ h₂
+      (λ next all h₃. whole-following f (read jobGroups s next) _ h₃
       (λ g tables _ h₄. whole-cond f (ltb maxGuides g) _ h₄
       (λ less h₅. whole-as start goal budget r factors g tables next few all less h₅)))))
 
   ends-whole : ends s plan end ≡ Whole f → Rounds s plan end f
   unfolding ends
   ends-whole h =
-      whole-following f _ (read jobGroups s end) h
-      (λ start goalAt _ h₁. whole-following f _ (read jobGroups s goalAt) h₁
-      (λ goal budgetAt _ h₂. whole-following f _ (read jobGroups s budgetAt) h₂
+      whole-following f (read jobGroups s end) _ h
+      (λ start goalAt _ h₁. whole-following f (read jobGroups s goalAt) _ h₁
+      (λ goal budgetAt _ h₂. whole-following f (read jobGroups s budgetAt) _ h₂
       (λ budget at _ h₃. rounds-whole start goal budget at h₃)))
 
 -- the plan is a part of the job's bytes
@@ -83,7 +84,7 @@ pub record Fits (s : List ℕ) (f : Front) : Type 0 where
 pub front-fits : (s : List ℕ) (f : Front) → front s ≡ Whole f → Fits s f
 unfolding front
 front-fits s f h =
-    whole-following f _ (read jobGroups s 0) h
+    whole-following f (read jobGroups s 0) _ h
     (λ size plan _ h₁. whole-cond f (ltb (length s) (plan + size)) _ h₁
     (λ there h₂.
     let r : Rounds s plan (plan + size) f = ends-whole s plan (plan + size) f h₂ in

@@ -16,22 +16,22 @@ use Rattle.job.specs.Reading.{following, past}
 -- ---- for the code that reads on
 
 module _ (rest : ℕ → ℕ → FrontRead) (r got : NumberRead) (e : got ≡ r) where
-  pub follows : (x next : ℕ) (t : FrontRead) → got ≡ Value x next → t ≡ rest x next → t ≡ following rest r
+  pub follows : (x next : ℕ) (t : FrontRead) → got ≡ Value x next → t ≡ rest x next → t ≡ following r rest
   unfolding following
-  follows x next t f h = h ∙ sym (ap (following rest) (sym e ∙ f))
+  follows x next t f h = h ∙ sym (ap (λ (q : NumberRead). following q rest) (sym e ∙ f))
 
-  pub follows-none : (p : ℕ) → got ≡ Refused p → Broken ≡ following rest r
+  pub follows-none : (p : ℕ) → got ≡ Refused p → Broken ≡ following r rest
   unfolding following
-  follows-none p f = sym (ap (following rest) (sym e ∙ f))
+  follows-none p f = sym (ap (λ (q : NumberRead). following q rest) (sym e ∙ f))
 
 module _ (rest : ℕ → FrontRead) (r got : NumbersRead) (e : got ≡ r) where
-  pub passes : (next : ℕ) (t : FrontRead) → got ≡ Past next → t ≡ rest next → t ≡ past rest r
+  pub passes : (next : ℕ) (t : FrontRead) → got ≡ Past next → t ≡ rest next → t ≡ past r rest
   unfolding past
-  passes next t f h = h ∙ sym (ap (past rest) (sym e ∙ f))
+  passes next t f h = h ∙ sym (ap (λ (q : NumbersRead). past q rest) (sym e ∙ f))
 
-  pub passes-none : got ≡ Malformed → Broken ≡ past rest r
+  pub passes-none : got ≡ Malformed → Broken ≡ past r rest
   unfolding past
-  passes-none f = sym (ap (past rest) (sym e ∙ f))
+  passes-none f = sym (ap (λ (q : NumbersRead). past q rest) (sym e ∙ f))
 
 module _ {A : Type 0} (b : Bool) (x y : A) where
   pub holds : b ≡ true → x ≡ cond b x y
@@ -44,17 +44,17 @@ module _ {A : Type 0} (b : Bool) (x y : A) where
 
 module _ {A : Type 0} (f : Front) where
   pub whole-following :
-      (rest : ℕ → ℕ → FrontRead) (r : NumberRead) → following rest r ≡ Whole f →
+      (r : NumberRead) (rest : ℕ → ℕ → FrontRead) → following r rest ≡ Whole f →
       ((x next : ℕ) → r ≡ Value x next → rest x next ≡ Whole f → A) → A
   unfolding following
-  whole-following rest (Value x next) h go = go x next refl h
-  whole-following rest (Refused p) h go = let z : _≡_ {A = ℕ} 0 1 = cc in absurd (omega arith)
+  whole-following (Value x next) rest h go = go x next refl h
+  whole-following (Refused p) rest h go = let z : _≡_ {A = ℕ} 0 1 = cc in absurd (omega arith)
 
   pub whole-past :
-      (rest : ℕ → FrontRead) (r : NumbersRead) → past rest r ≡ Whole f → ((next : ℕ) → r ≡ Past next → rest next ≡ Whole f → A) → A
+      (r : NumbersRead) (rest : ℕ → FrontRead) → past r rest ≡ Whole f → ((next : ℕ) → r ≡ Past next → rest next ≡ Whole f → A) → A
   unfolding past
-  whole-past rest (Past next) h go = go next refl h
-  whole-past rest Malformed h go = let z : _≡_ {A = ℕ} 0 1 = cc in absurd (omega arith)
+  whole-past (Past next) rest h go = go next refl h
+  whole-past Malformed rest h go = let z : _≡_ {A = ℕ} 0 1 = cc in absurd (omega arith)
 
   pub whole-cond : (b : Bool) (y : FrontRead) → cond b Broken y ≡ Whole f → (b ≡ false → y ≡ Whole f → A) → A
   whole-cond true y h go = let z : _≡_ {A = ℕ} 0 1 = cc in absurd (omega arith)

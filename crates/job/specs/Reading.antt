@@ -1,5 +1,5 @@
 -- A bench job's bytes: plan length, the plan, start, goal, allowance, rounds and factors, guide count, anchor table, guide sheets.
-use Prim.Native.Nat.{ℕ, suc, _+_, _-_, _*_}
+use Prim.Native.Nat.{ℕ, _+_, _-_, _*_}
 use mathlib.Core.Bool.{cond, _||_}
 use mathlib.Core.List.{List}
 use lib.ListN.{length, take, drop}
@@ -17,7 +17,7 @@ use Rattle.job.specs.declared.FrontRead.{FrontRead}
 use Rattle.job.specs.declared.FrontRead.the-variants.{Whole, Broken}
 use Rattle.job.specs.declared.JobRead.{JobRead}
 use Rattle.job.specs.declared.JobRead.the-variants.{Accepted, Refused}
-use Rattle.job.specs.Numbers.{endOf, values}
+use Rattle.job.specs.Numbers.{endOf}
 
 -- ---- limits
 
@@ -41,25 +41,22 @@ maxEdges = 2048
 -- ---- up to the guide count: bytes missing, a number of bad form, over 16 rounds or 8 guides
 
 -- what follows a number
-unfoldable pub following : (ℕ → ℕ → FrontRead) → NumberRead → FrontRead
-following rest (number.Value x next) = rest x next
-following rest (number.Refused p) = Broken
+unfoldable pub following : NumberRead → (ℕ → ℕ → FrontRead) → FrontRead
+following (number.Value x next) rest = rest x next
+following (number.Refused p) rest = Broken
 
 -- what follows several
-unfoldable pub past : (ℕ → FrontRead) → NumbersRead → FrontRead
-past rest (Past next) = rest next
-past rest Malformed = Broken
+unfoldable pub past : NumbersRead → (ℕ → FrontRead) → FrontRead
+past (Past next) rest = rest next
+past Malformed rest = Broken
 
 -- rounds and factors, guide count
 unfoldable pub rounds : List ℕ → ℕ → ℕ → ℕ → ℕ → ℕ → ℕ → FrontRead
 rounds s plan end start goal budget at =
-    following
-    (λ rounds factors.
+    following (read jobGroups s at) (λ rounds factors.
     cond (ltb maxRounds rounds) Broken
-    (past
-    (λ guidesAt.
-    following
-    (λ guides tables.
+    (past (endOf (2 * rounds) s factors) (λ guidesAt.
+    following (read jobGroups s guidesAt) (λ guides tables.
     cond (ltb maxGuides guides) Broken
     (Whole
     (record {
@@ -72,25 +69,21 @@ rounds s plan end start goal budget at =
       factors = factors;
       guides = guides;
       tables = tables;
-    })))
-    (read jobGroups s guidesAt))
-    (endOf (2 * rounds) s factors)))
-    (read jobGroups s at)
+    }))))))
 
 -- start, goal, allowance
 unfoldable pub ends : List ℕ → ℕ → ℕ → FrontRead
 ends s plan end =
-    following
-    (λ start goalAt.
-    following
-    (λ goal budgetAt. following (rounds s plan end start goal) (read jobGroups s budgetAt)) (read jobGroups s goalAt))
-    (read jobGroups s end)
+    following (read jobGroups s end) (λ start goalAt.
+    following (read jobGroups s goalAt) (λ goal budgetAt.
+    following (read jobGroups s budgetAt) (λ budget at.
+    rounds s plan end start goal budget at)))
 
 -- plan length, the plan
 unfoldable pub front : List ℕ → FrontRead
 front s =
-    following (λ size plan. cond (ltb (length s) (plan + size)) Broken (ends s plan (plan + size)))
-    (read jobGroups s 0)
+    following (read jobGroups s 0) (λ size plan.
+    cond (ltb (length s) (plan + size)) Broken (ends s plan (plan + size)))
 
 -- ---- the plan next: 1 to 7, with positions inside it
 
@@ -126,20 +119,3 @@ afterFront s (Whole f) = afterPlan s f (sizes (decode (planOf s f)))
 -- first 14 for over 32,768 bytes
 unfoldable pub jobRead : List ℕ → JobRead
 jobRead s = cond (ltb maxBytes (length s)) (Refused 14 0) (afterFront s (front s))
-
--- ---- what an accepted job holds, besides its plan
-
--- W1, W2, W1, W2, ..
-unfoldable pub scheduleOf : List ℕ → Front → List ℕ
-scheduleOf s f = values (2 * f .rounds) s (f .factors)
-
-unfoldable pub tablesOf : List ℕ → Front → ℕ → List ℕ
-tablesOf s f v = values (tableCount f v) s (f .tables)
-
--- the anchor table
-unfoldable pub anchorOf : List ℕ → Front → ℕ → List ℕ
-anchorOf s f v = take v (tablesOf s f v)
-
--- the guide sheets one after another
-unfoldable pub sheetsOf : List ℕ → Front → ℕ → List ℕ
-sheetsOf s f v = drop v (tablesOf s f v)

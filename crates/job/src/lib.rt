@@ -3,9 +3,7 @@
 mod header;
 pub mod numbers;
 
-ghost use Prim.Native.Nat.{_≤_};
 ghost use mathlib.Core.Path.{_≡_};
-ghost use lib.ListN.{length};
 ghost use Rattle.job.specs.Reading.{jobRead, afterPlan, afterSizes};
 use graph::PlanRead;
 use graph::check;
