@@ -1,0 +1,2 @@
+// Job bytes to printed text, in a lent buffer.
+pub mod ending;
