@@ -42,16 +42,20 @@ zeros = record { route = replicate routeSize 0; log = replicate logSize 0; work 
 
 -- ---- the call
 
-unfoldable pub callOf : List ℕ → Front → ℕ → Call
-callOf s f v =
+-- with this plan, these tables and this schedule
+unfoldable pub callWith : List ℕ → Front → List ℕ → List ℕ → List ℕ → Call
+callWith plan f anchor sheets schedule =
     record {
-      bytes = planOf s f;
+      bytes = plan;
       start = f .start;
       goal = f .goal;
-      anchor = anchorOf s f v;
-      sheets = sheetsOf s f v;
+      anchor = anchor;
+      sheets = sheets;
       count = f .guides;
-      schedule = scheduleOf s f;
+      schedule = schedule;
       budget = f .budget;
       memory = zeros;
     }
+
+unfoldable pub callOf : List ℕ → Front → ℕ → Call
+callOf s f v = callWith (planOf s f) f (anchorOf s f v) (sheetsOf s f v) (scheduleOf s f)
