@@ -1,2 +1,4 @@
 -- What the contracts cite.
 pub mod Shown
+pub mod Steps
+pub mod Stub
