@@ -10,7 +10,8 @@ use Rattle.graph.specs.Plan.{Decoded, accepted, refused, decode}
 use Rattle.graph.specs.Lists.{Fault, none, fault, edgesIn}
 use Rattle.search.specs.Job.{house}
 use Rattle.search.specs.Call.{Call, inForce, pairs, faultIn, faultOf, jobIn, jobFrom, jobOf}
-use Rattle.search.proofs.Admitted.{Clear, clear}
+use Rattle.search.specs.Admitted.{Admissible}
+use Rattle.search.proofs.Admitted.{clear}
 use Rattle.admission.specs.declared.Verdict.the-variants.{Admitted, Refused}
 use Rattle.admission.specs.Admission.{verdict, verdictOf}
 
@@ -21,7 +22,7 @@ pub record Admits (c : Call) (v m : ℕ) : Type 0 where
   pub count : length edges ≡ m
   pub size : jobOf c .size ≡ v
   pub none : faultOf c ≡ none
-  pub clear : Clear c v edges
+  pub clear : Admissible c v edges
 
 admitted≢refused : {v m n p : ℕ} → Refused n p ≡ Admitted v m → ⊥
 admitted≢refused h = let z : _≡_ {A = ℕ} 0 1 = cc in omega arith

@@ -9,7 +9,7 @@ use Rattle.search.specs.Call.{Memory, Call, faultOf, jobOf}
 use Rattle.admission.specs.declared.Verdict.{Verdict}
 use Rattle.admission.specs.declared.Verdict.the-variants.{Admitted, Refused}
 
--- turned down where there is a fault; else V and M
+-- a call is turned down where it has a fault; else it is admitted, with V and M of its plan
 unfoldable pub verdict : ℕ → ℕ → Fault → Verdict
 verdict v m none = Admitted v m
 verdict v m (fault n p) = Refused n p

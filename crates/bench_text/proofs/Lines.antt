@@ -11,7 +11,7 @@ use mir.Val.{Fits}
 use mir.Syntax.{w32}
 use Rattle.text.specs.Laid.{Put, Counted}
 use Rattle.text.specs.Text.{loggedLine, turnLines, routeLine, endLine, noRouteLine, unfinishedLine, refusedLine}
-use Rattle.text.proofs.Laid.{then-put}
+use Rattle.text.proofs.Laid.{put-length, then-put}
 use Rattle.text.proofs.Lengths.{length-each, length-turn-line, length-end-line, length-no-route-line, length-unfinished-line, length-refused-line, length-route-line}
 use Rattle.job.specs.Asked.{routeSize, logSize}
 use Rattle.bench_text.specs.Shown.{maxText, Texts, Lent}
@@ -85,3 +85,8 @@ module _ {old : List ℕ} {at : ℕ} {mid : List ℕ} {end : ℕ} {near : List �
               third .next,
             );
       }
+
+-- ---- a buffer that has room for every text
+
+pub text-fits : {text old : List ℕ} {r : ℕ} {new : List ℕ} → maxText ≤ length old → Texts text old r new → r ≤ length new
+text-fits h t = omega (arith, t .few, put-length (t .put))

@@ -1,37 +1,46 @@
--- The table of document 01's (p) cases.
+-- The table of document 01's (p) cases, and the job that tells its rules from others.
 -- Assumes nothing.
 use mathlib.Core.Path.{refl}
 use Rattle.leb128.specs.Number.{planGroups, more, answered, read}
 use Rattle.leb128.specs.Number
 use Rattle.graph.specs.Rows.{vertexCountRows, edgeCountRows, tailRows, headRows, costRows, through, throughAll, taking}
 use Rattle.graph.specs.Rows
-use Rattle.graph.specs.Plan.{leastAfter, past, nextEdge, before, onward, edgesFrom, header, afterHeader, decode, sizes}
-use Rattle.graph.specs.Lists.{over, edgesIn, roomFor, readAs, readAnswer}
+use Rattle.graph.specs.Plan.{leastAfter, past, nextEdge, before, onward, edgesFrom, header, afterHeader, decode}
+use Rattle.graph.specs.Lists.{over, edgesIn}
 use Rattle.search.specs.Walk.{edgeCost, onEdge, costFrom, routeCost}
 use Rattle.search.specs.Job.{guides, heuristic, factors, house, unreached, noPred, routeEnd, fresh, origin, atFirst, at}
 use Rattle.search.specs.Turn.{key, offered, better, leastFrom, least, stepOne, candidate, choose, marked, lowered, relax, relaxAll, expand}
 use Rattle.search.specs.Rounds.{firstTurn, nextTurn, turned, ended, inHand, step, choice, turn, trace, traced, improves, costOr, reopened, endRound, onFinished, settle, settled, begin, onDue, advance, run, moments, search}
 use Rattle.search.specs.Call.{inForce, outOfRange, rising, pairs, row, first, endsRow, tablesRow, scheduleRow, memoryRow, goalRow, edgesRow, faultIn, faultOf, tables, jobIn, jobFrom, jobOf}
 use Rattle.search.specs.Outcome.{bound, summary, cutShort, answerAt, answerOf, figures, routeWords, routeAfter, logWord, logAfter, edgesBelow, firstEdges, markWord, vertexWords, workWords, outcome, answerIn, answer, memoryIn, memoryAfter}
+use Rattle.job.proofs.JobA.{prints-A}
 use Rattle.cases.specs.Cases.{Cases}
+use Rattle.cases.specs.Apart.{Apart}
+use Rattle.cases.proofs.Ends.{plan-refused}
 use Rattle.cases.proofs.TwoVertices.{two-vertices}
 use Rattle.cases.proofs.StartIsGoal.{start-is-goal}
 
+computed : Cases × Apart
+unfolding Number.decode more answered read planGroups vertexCountRows edgeCountRows tailRows headRows costRows through throughAll Rows.take taking leastAfter past nextEdge before onward edgesFrom header afterHeader decode over edgesIn edgeCost onEdge costFrom routeCost guides heuristic factors house unreached noPred routeEnd fresh origin atFirst at key offered better leastFrom least stepOne candidate choose marked lowered relax relaxAll expand firstTurn nextTurn turned ended inHand step choice turn trace traced improves costOr reopened endRound onFinished settle settled begin onDue advance run moments search inForce outOfRange rising pairs row first endsRow tablesRow scheduleRow memoryRow goalRow edgesRow faultIn faultOf tables jobIn jobFrom jobOf bound summary cutShort answerAt answerOf figures routeWords routeAfter logWord logAfter edgesBelow firstEdges markWord vertexWords workWords outcome answerIn answer memoryIn memoryAfter
+computed = (
+  record {
+    job-A = record { says = refl; leaves = refl };
+    job-A-at-2 = record { says = refl; leaves = refl };
+    job-A-at-1 = record { says = refl; leaves = refl };
+    job-A-prints = prints-A;
+    two-vertices = two-vertices;
+    start-is-goal = start-is-goal;
+    no-bytes = plan-refused _ _ _ refl;
+    not-shortest = plan-refused _ _ _ refl;
+    no-edge-count = plan-refused _ _ _ refl;
+    anchor-breaks-edge-0 = record { says = refl; leaves = refl };
+    anchor-not-0-at-goal = record { says = refl; leaves = refl };
+  },
+  record { job-B = record { says = refl; leaves = refl } },
+)
+
 pub all-cases : Cases
-unfolding Number.decode more answered read planGroups vertexCountRows edgeCountRows tailRows headRows costRows through throughAll Rows.take taking leastAfter past nextEdge before onward edgesFrom header afterHeader decode over edgesIn edgeCost onEdge costFrom routeCost guides heuristic factors house unreached noPred routeEnd fresh origin atFirst at key offered better leastFrom least stepOne candidate choose marked lowered relax relaxAll expand firstTurn nextTurn turned ended inHand step choice turn trace traced improves costOr reopened endRound onFinished settle settled begin onDue advance run moments search inForce outOfRange rising pairs row first endsRow tablesRow scheduleRow memoryRow goalRow edgesRow faultIn faultOf tables jobIn jobFrom jobOf bound summary cutShort answerAt answerOf figures routeWords routeAfter logWord logAfter edgesBelow firstEdges markWord vertexWords workWords outcome answerIn answer memoryIn memoryAfter sizes roomFor readAs readAnswer
-all-cases =
-    record {
-      job-A = record { says = refl; leaves = refl };
-      job-A-at-2 = record { says = refl; leaves = refl };
-      job-A-at-1 = record { says = refl; leaves = refl };
-      two-vertices = two-vertices;
-      start-is-goal = start-is-goal;
-      no-bytes =
-          record { decoded = refl; read = λ ts hs cs. refl; called = λ c e. record { says = rw e; leaves = rw e } };
-      not-shortest =
-          record { decoded = refl; read = λ ts hs cs. refl; called = λ c e. record { says = rw e; leaves = rw e } };
-      no-edge-count =
-          record { decoded = refl; read = λ ts hs cs. refl; called = λ c e. record { says = rw e; leaves = rw e } };
-      anchor-breaks-edge-0 = record { says = refl; leaves = refl };
-      anchor-not-0-at-goal = record { says = refl; leaves = refl };
-    }
+all-cases = computed .0
+
+pub apart : Apart
+apart = computed .1

@@ -1,14 +1,17 @@
--- A search from its beginning: step 1 where a round is left, and what a call that is not refused hands over.
+-- A search from its beginning: step 1 where a round is left. What a call hands over that is not refused, or whose plan is.
 -- Assumes nothing.
-use mathlib.Core.Path.{_≡_, refl}
+use mathlib.Core.Path.{_≡_}
+use mathlib.Core.List.{List}
 use Prim.Native.Nat.{ℕ, suc, _-_}
 use lib.ListN.{length}
-use Rattle.graph.specs.Lists.{none}
+use Rattle.graph.specs.Plan
+use Rattle.graph.specs.Plan.{decode, sizes}
+use Rattle.graph.specs.Lists.{none, readAs, readAnswer}
 use Rattle.search.specs.Job.{Job}
-use Rattle.search.specs.Rounds.{State, Stand, step, endRound, onFinished, settle, settled}
-use Rattle.search.specs.Call.{Memory, Call, faultOf}
+use Rattle.search.specs.Rounds.{State, step, endRound, onFinished, settle, settled}
+use Rattle.search.specs.Call.{Memory, Call, faultIn, faultOf}
 use Rattle.search.specs.Outcome.{Figures, figures, answerIn, answer, memoryIn, memoryAfter}
-use Rattle.cases.specs.Cases.{HandsOver}
+use Rattle.cases.specs.Cases.{HandsOver, PlanRefused}
 
 pub settled-at :
     (job : Job) (s : State) (n : ℕ) → length (job .schedule) - s .progress .rounds ≡ suc n →
@@ -19,3 +22,8 @@ settled-at job s n e = rw e
 pub handed : (c : Call) (f : Figures) (m : Memory) → faultOf c ≡ none → figures (answerIn c none) ≡ f → memoryIn c none ≡ m → HandsOver c f m
 unfolding answer memoryAfter
 handed c f m e a b = record { says = rw e a; leaves = rw e b }
+
+pub plan-refused : (bytes : List ℕ) (n p : ℕ) → decode bytes ≡ Plan.refused n p → PlanRefused bytes n p
+unfolding readAnswer readAs sizes answer memoryAfter answerIn memoryIn faultOf faultIn figures
+plan-refused bytes n p e =
+    record { decoded = e; read = λ ts hs cs. rw e; called = λ c h. record { says = rw (h, e); leaves = rw (h, e) } }

@@ -11,11 +11,11 @@ use Rattle.graph.specs.Plan.{leastAfter, past, nextEdge, before, onward, edgesF
 use Rattle.graph.specs.Lists.{none}
 use Rattle.search.specs.Walk.{Walk}
 use Rattle.search.specs.Call.{inForce, outOfRange, rising, row, first, endsRow, tablesRow, scheduleRow, memoryRow, goalRow, edgesRow, faultIn, faultOf, jobIn, jobFrom, jobOf}
-use Rattle.search.specs.Outcome.{Figures, figures, outcome, answer, memoryAfter}
+use Rattle.search.specs.Outcome.{Figures, outcome, answer, memoryAfter}
 use Rattle.search.specs.Guarantee.{Guarantee}
 use Rattle.search.proofs.Guarantee.{guaranteed}
 use Rattle.cases.specs.Cases.{jobA}
-use Rattle.cases.specs.Instance.{Instance, edgesA}
+use Rattle.cases.specs.Instance.{Instance}
 use Rattle.cases.proofs.Cases.{all-cases}
 
 admits : faultOf (jobA 100) ≡ none

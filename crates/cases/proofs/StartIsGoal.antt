@@ -1,30 +1,30 @@
 -- Start = goal: step 1 finishes every round, and nothing is expanded.
 -- Assumes nothing.
-use mathlib.Core.Path.{_≡_, refl, sym, ap, _∙_, subst}
+use mathlib.Core.Path.{_≡_, refl, sym, ap, _∙_}
 use mathlib.Core.Bool.{Bool, true, false, cond, _||_}
 use mathlib.Core.List.{List, [], _∷_, map}
-use Prim.Native.Nat.{ℕ, zero, suc, _+_, _-_, _*_, _≤_, _<_}
+use Prim.Native.Nat.{ℕ, zero, suc, _+_, _-_, _<_}
 use native.Mathlib.Omega.{arith}
-use lib.ListN.{length, take, set, replicate, length-replicate}
+use lib.ListN.{length, replicate, length-replicate}
 use lib.Seq.{take-nil}
-use lib.Dec.{T, ltb, eqb}
+use lib.Dec.{ltb, eqb}
 use borrow.Author.Tests.{eq-eqb, ne-eqb}
 use Rattle.graph.specs.Plan.{Decoded, accepted, refused, decode}
-use Rattle.graph.specs.Lists.{none, over, edgesIn}
+use Rattle.graph.specs.Lists.{none, over}
 use Rattle.search.specs.declared.Vertex.{Vertex}
-use Rattle.search.specs.declared.Progress.{Progress}
 use Rattle.search.specs.declared.Step.{Step}
-use Rattle.search.specs.declared.Step.the-variants.{Stuck, Finished, Due}
+use Rattle.search.specs.declared.Step.the-variants.{Finished, Due}
 use Rattle.search.specs.Walk.{routeCost, costFrom}
-use Rattle.search.specs.Job.{Job, guides, factors, unreached, routeEnd, fresh, origin, atFirst, at}
-use Rattle.search.specs.Rounds.{State, Stand, firstTurn, ended, step, trace, traced, improves, costOr, reopened, endRound, onFinished, settle, settled, begin, run, moments, search}
-use Rattle.search.specs.Call.{Memory, Call, faultOf, jobIn, jobFrom, jobOf}
-use Rattle.search.specs.Outcome.{bound, summary, answerAt, answerOf, figures, routeWords, routeAfter, logAfter, workWords, outcome, answerIn, memoryIn}
+use Rattle.search.specs.Job.{Job, guides, unreached, fresh, origin, atFirst, at}
+use Rattle.search.specs.Rounds.{State, Stand, firstTurn, ended, step, trace, traced, improves, costOr, reopened, endRound, onFinished, settle, begin, run, moments, search}
+use Rattle.search.specs.Call.{Call, faultOf, jobIn, jobFrom, jobOf}
+use Rattle.search.specs.Outcome.{bound, summary, answerAt, answerOf, figures, routeWords, routeAfter, logAfter, outcome, answerIn, memoryIn}
 use Rattle.search.proofs.Tools.{at-set-same}
 use Rattle.search.proofs.Facts.{Valid}
 use Rattle.search.proofs.Rule.{StepView, at-stuck, at-finished, at-due, step-view}
 use Rattle.search.proofs.Runs.{run-over, moments-over, finished≢due}
-use Rattle.search.proofs.Admitted.{admitted}
+use Rattle.search.specs.Admitted.{Admitted}
+use Rattle.search.proofs.Admitted.{exact, admitted}
 use Rattle.cases.specs.Cases.{HandsOver, allRounds, startAlone}
 use Rattle.cases.proofs.Ends.{settled-at, handed}
 
@@ -129,7 +129,10 @@ unfolding jobFrom jobIn
 goal-of c (accepted v es) = refl
 goal-of c (refused n p) = refl
 
-module _ (c : Call) (e : faultOf c ≡ none) (same : c .start ≡ c .goal) where
+module _ (c : Call) (y : Admitted c) (same : c .start ≡ c .goal) where
+  abbrev e : faultOf c ≡ none
+  e = exact c .1 y
+
   starts : jobOf c .start ≡ c .start
   unfolding jobOf
   starts = start-of c (decode (c .bytes))

@@ -1,37 +1,34 @@
 -- Two vertices and no edge: no route after one turn.
 -- Assumes nothing.
 use mathlib.Core.Path.{_≡_, refl, _∙_, ap}
-use mathlib.Core.Bool.{true, false}
 use mathlib.Core.List.{List, [], _∷_, List·Memᴰ·not-nil}
 use Prim.Native.Nat.{ℕ, zero, suc, _+_, _*_, _-_, _≤_}
 use native.Mathlib.Nat.{not-suc-le-zero}
 use native.Mathlib.Omega.{arith}
-use lib.ListN.{length, take}
+use lib.ListN.{length}
 use Rattle.leb128.specs.Number
 use Rattle.leb128.specs.Number.{planGroups, answered, read}
 use Rattle.graph.specs.Rows
 use Rattle.graph.specs.Rows.{vertexCountRows, edgeCountRows, through, throughAll, taking}
-use Rattle.graph.specs.Plan.{accepted, edgesFrom, header, afterHeader, decode}
+use Rattle.graph.specs.Plan.{edgesFrom, header, afterHeader, decode}
 use Rattle.graph.specs.Lists.{none, edgesIn}
 use Rattle.search.specs.declared.Factors.{Factors}
-use Rattle.search.specs.declared.Vertex.{Vertex}
-use Rattle.search.specs.declared.Step.{Step}
 use Rattle.search.specs.declared.Step.the-variants.{Stuck, Due}
 use Rattle.search.specs.Job.{Job, guides, heuristic, factors, house, unreached, noPred, fresh, origin, atFirst, at}
 use Rattle.search.specs.Turn.{key, offered, better, leastFrom, least, stepOne, candidate, choose, marked, relaxAll, expand}
-use Rattle.search.specs.Rounds.{State, Stand, Moment, firstTurn, nextTurn, turned, inHand, step, choice, turn, onFinished, settle, settled, begin, onDue, advance, run, moments, search}
+use Rattle.search.specs.Rounds.{State, Stand, Moment, firstTurn, nextTurn, turned, inHand, step, choice, turn, onFinished, begin, onDue, advance, run, moments, search}
 use Rattle.search.specs.Call.{Memory, Call, inForce, pairs, faultOf, tables, jobIn, jobFrom, jobOf}
-use Rattle.search.specs.Outcome.{Figures, answerAt, answerOf, figures, routeAfter, logWord, logAfter, edgesBelow, firstEdges, markWord, vertexWords, workWords, outcome, answerIn, memoryIn}
+use Rattle.search.specs.Outcome.{answerAt, answerOf, figures, routeAfter, logWord, logAfter, edgesBelow, firstEdges, markWord, vertexWords, workWords, outcome, answerIn, memoryIn}
+use Rattle.search.specs.Admitted.{Schedule}
 use Rattle.search.proofs.Admitted.{clear-none}
 use Rattle.search.proofs.Runs.{run-over, moments-over, stuck≢due}
-use Rattle.cases.specs.Cases.{HandsOver, Schedule, Enough, twoVertices, noRouteAfter, twoVerticesAfter}
-use Rattle.cases.proofs.Schedules.{Passes, passes}
+use Rattle.cases.specs.Cases.{HandsOver, Enough, twoVertices, noRouteAfter, twoVerticesAfter}
+use Rattle.cases.proofs.Schedules.{in-force}
 use Rattle.cases.proofs.Ends.{settled-at, handed}
 
 not-refused : (ws : List ℕ) → Schedule ws → (n : ℕ) (m : Memory) → Enough 2 0 m → faultOf (twoVertices ws n m) ≡ none
 unfolding Number.decode answered read planGroups vertexCountRows edgeCountRows through throughAll Rows.take taking edgesFrom header afterHeader decode faultOf
 not-refused ws y n m e =
-    let p : Passes _ = passes ws y in
     clear-none (twoVertices ws n m) 2 []
     (record {
       starts = omega arith;
@@ -39,10 +36,7 @@ not-refused ws y n m e =
       few = omega arith;
       anchored = refl;
       guided = refl;
-      short = p .short;
-      even = p .even;
-      range = p .range;
-      falls = p .falls;
+      schedule = in-force ws y;
       route-room = e .route;
       work-room = e .work;
       goal-zero = refl;

@@ -1,15 +1,17 @@
 -- The cases that document 01 marks (p), one row each in one table. Proved in proofs/Cases.antt.
-use Prim.Native.Nat.{ℕ, suc, _+_, _-_, _*_, _≤_, _<_}
+use Prim.Native.Nat.{ℕ, _+_, _-_, _*_, _≤_}
 use mathlib.Core.Path.{_≡_}
 use mathlib.Core.List.{List, [], _∷_, _++_}
-use lib.ListN.{length, getD, take, replicate}
+use lib.ListN.{length, take, replicate}
 use Rattle.graph.specs.declared.PlanRead.the-variants.{Refused}
 use Rattle.graph.specs.Plan.{decode}
 use Rattle.graph.specs.Plan
-use Rattle.graph.specs.Lists.{none, over, readAnswer, edgesIn}
+use Rattle.graph.specs.Lists.{over, readAnswer, edgesIn}
 use Rattle.search.specs.Job.{Job, factors, routeEnd, atFirst}
-use Rattle.search.specs.Call.{Memory, Call, faultOf, jobOf}
+use Rattle.search.specs.Call.{Memory, Call, jobOf}
+use Rattle.search.specs.Admitted.{Schedule, Admitted}
 use Rattle.search.specs.Outcome.{Figures, route, noRoute, unfinished, refused, figures, workWords, answer, memoryAfter}
+use Rattle.job.specs.JobA.{PrintsA}
 
 -- ---- what a call hands over
 
@@ -44,14 +46,15 @@ pub record PlanRefused (bytes : List ℕ) (n p : ℕ) : Type 0 where
 abbrev pub planA : List ℕ
 planA = 0x04 ∷ 0x04 ∷ 0x00 ∷ 0x01 ∷ 0x01 ∷ 0x00 ∷ 0x02 ∷ 0x04 ∷ 0x01 ∷ 0x02 ∷ 0x02 ∷ 0x01 ∷ 0x03 ∷ 0x03 ∷ []
 
--- every word of lent memory before the call, and 4,294,967,295
+-- every word of lent memory before the call
 abbrev pub old : ℕ
 old = 7
 
-abbrev pub no : ℕ
-no = 4294967295
+-- not reached, never expanded, no predecessor; past the route's end
+abbrev pub unset : ℕ
+unset = 4294967295
 
--- a word more than is needed, in each
+-- lent memory: in each a word more than job A needs
 abbrev pub lent : Memory
 lent = record { route = replicate 5 old; log = replicate 5 old; work = replicate 30 old }
 
@@ -95,14 +98,6 @@ twoVertices schedule budget memory =
       memory = memory;
     }
 
--- a schedule: up to 16 rounds, two factors each, 100 to 10,000; neither rises from a round to the next
-pub record Schedule (ws : List ℕ) : Type 0 where
-  pub rounds : ℕ
-  pub few : rounds ≤ 16
-  pub two : length ws ≡ rounds * 2
-  pub range : (i : ℕ) → i < length ws → (100 ≤ getD ws i 0) × (getD ws i 0 ≤ 10000)
-  pub falls : (i : ℕ) → suc (suc i) < length ws → getD ws (suc (suc i)) 0 ≤ getD ws i 0
-
 -- lent memory that is large enough: V words of route memory, 5V+1+2M of work memory
 pub record Enough (v m : ℕ) (memory : Memory) : Type 0 where
   pub route : v ≤ length (memory .route)
@@ -114,7 +109,7 @@ twoVerticesAfter m =
     record {
       route = m .route;
       log = over (take (length (m .log)) (0 ∷ [])) (m .log);
-      work = over (0 ∷ 0 ∷ 0 ∷ 0 ∷ 0 ∷ no ∷ 2 ∷ no ∷ no ∷ no ∷ 0 ∷ []) (m .work);
+      work = over (0 ∷ 0 ∷ 0 ∷ 0 ∷ 0 ∷ unset ∷ 2 ∷ unset ∷ unset ∷ unset ∷ 0 ∷ []) (m .work);
     }
 
 -- ---- start = goal
@@ -145,15 +140,15 @@ pub record Cases : Type 0 where
       (record {
         route = 0 ∷ 1 ∷ 2 ∷ 3 ∷ old ∷ [];
         log = 65536 ∷ 65538 ∷ 1 ∷ 65538 ∷ old ∷ [];
-        work = workA (0 ∷ 0 ∷ no ∷ 0 ∷ []) (1 ∷ 1 ∷ 0 ∷ 2 ∷ []) (3 ∷ 3 ∷ 1 ∷ 1 ∷ []) (6 ∷ no ∷ 2 ∷ 4 ∷ []);
+        work = workA (0 ∷ 0 ∷ unset ∷ 0 ∷ []) (1 ∷ 1 ∷ 0 ∷ 2 ∷ []) (3 ∷ 3 ∷ 1 ∷ 1 ∷ []) (6 ∷ unset ∷ 2 ∷ 4 ∷ []);
       })
   -- (p) allowance 2: route 0 2 3, cost 7, one round, bound 40000
   pub job-A-at-2 :
       HandsOver (jobA 2) (routed 7 3 1 2 40000)
       (record {
-        route = 0 ∷ 2 ∷ 3 ∷ no ∷ old ∷ [];
+        route = 0 ∷ 2 ∷ 3 ∷ unset ∷ old ∷ [];
         log = 65536 ∷ 65538 ∷ old ∷ old ∷ old ∷ [];
-        work = workA (0 ∷ 0 ∷ no ∷ 0 ∷ []) (1 ∷ no ∷ 0 ∷ 4 ∷ []) (4 ∷ 4 ∷ 0 ∷ 0 ∷ []) (7 ∷ no ∷ 2 ∷ 4 ∷ []);
+        work = workA (0 ∷ 0 ∷ unset ∷ 0 ∷ []) (1 ∷ unset ∷ 0 ∷ 4 ∷ []) (4 ∷ 4 ∷ 0 ∷ 0 ∷ []) (7 ∷ unset ∷ 2 ∷ 4 ∷ []);
       })
   -- (p) allowance 1: unfinished
   pub job-A-at-1 :
@@ -161,14 +156,16 @@ pub record Cases : Type 0 where
       (record {
         route = old ∷ old ∷ old ∷ old ∷ old ∷ [];
         log = 65536 ∷ old ∷ old ∷ old ∷ old ∷ [];
-        work = workA (0 ∷ 0 ∷ no ∷ 1 ∷ []) (1 ∷ no ∷ 0 ∷ 4 ∷ []) (4 ∷ no ∷ 0 ∷ 4 ∷ []) (no ∷ no ∷ no ∷ 0 ∷ []);
+        work = workA (0 ∷ 0 ∷ unset ∷ 1 ∷ []) (1 ∷ unset ∷ 0 ∷ 4 ∷ []) (4 ∷ unset ∷ 0 ∷ 4 ∷ []) (unset ∷ unset ∷ unset ∷ 0 ∷ []);
       })
+  -- the same three from job bytes, as the bench program prints them
+  pub job-A-prints : PrintsA
   -- (p) `02 00`, 0 to 1, zero anchor table, no guides, allowance 1 or more: no route, 1 turn
   pub two-vertices :
       (ws : List ℕ) → Schedule ws → (budget : ℕ) → 1 ≤ budget → (m : Memory) → Enough 2 0 m →
       HandsOver (twoVertices ws budget m) (noRouteAfter 1) (twoVerticesAfter m)
-  -- (p) Start = goal, allowance 0, valid tables: cost 0, every round finished. So at every allowance
-  pub start-is-goal : (c : Call) → faultOf c ≡ none → c .start ≡ c .goal → HandsOver c (allRounds c) (startAlone c)
+  -- (p) Start = goal, allowance 0, valid tables: cost 0, every round finished. So of every call that is not refused
+  pub start-is-goal : (c : Call) → Admitted c → c .start ≡ c .goal → HandsOver c (allRounds c) (startAlone c)
   -- (p) no bytes: 1 at 0
   pub no-bytes : PlanRefused [] 1 0
   -- (p) `80 00`: 1 at 0

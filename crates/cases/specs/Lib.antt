@@ -1,3 +1,4 @@
 -- What is stated, in reading order.
 pub mod Cases
 pub mod Instance
+pub mod Apart

@@ -3,9 +3,11 @@
 use Prim.Native.Nat.{ℕ, suc, _+_, _^_, _≤_, _<_}
 use native.Mathlib.Omega.{arith}
 use mathlib.Core.Path.{_≡_, refl, sym, ap, _∙_}
+use mathlib.Core.Bool.{Bool, true, false, cond}
 use mathlib.Core.List.{List, [], _∷_, _++_, append-assoc}
 use lib.ListN.{length, length-append, length-map}
 use lib.Seq.{sets, length-sets}
+use lib.Dec.{leb}
 use borrow.Author.Tests.{lt-ltb, le-ltb, le-leb, lt-leb, eq-eqb, ne-eqb}
 use Rattle.leb128.specs.Number.{encode, planGroups}
 use Rattle.graph.specs.declared.Edge.{Edge}
@@ -185,11 +187,16 @@ module _ (v : ℕ) (ts hs cs out : List ℕ) where
     pub plan-fits : size ≤ length out → PlanFits out v ts hs cs
     plan-fits h = record { passes = counted .0; room = omega (arith, counted .1) }
 
-    pub answers-short : length out < size → Answers (Rejected 11 0) out
-    unfolding writeAnswer writtenAs outAfter
-    answers-short h = (rw (counted .0, counted .1) (simp (lt-leb size (length out) h)), refl)
+    -- there is room for the bytes, or not
+    answers-by : (b : Bool) → leb size (length out) ≡ b → cond b (Count size) (Rejected 11 0) ≡ writeAnswer v ts hs cs out
+    unfolding writeAnswer writtenAs
+    answers-by b h = rw (counted .0, counted .1) (ap (λ (t : Bool). cond t (Count size) (Rejected 11 0)) (sym h))
 
     pub answers-count :
         size ≤ length out → (out′ : List ℕ) → out′ ≡ over (bytesOf v (edgesOf ts hs cs)) out → Answers (Count size) out′
-    unfolding writeAnswer writtenAs outAfter
-    answers-count h out′ m = (rw (counted .0, counted .1) (simp (le-leb size (length out) h)), m)
+    unfolding outAfter
+    answers-count h out′ m = (answers-by true (le-leb size (length out) h), m)
+
+    pub answers-short : length out < size → Answers (Rejected 11 0) out
+    unfolding outAfter
+    answers-short h = (answers-by false (lt-leb size (length out) h), refl)

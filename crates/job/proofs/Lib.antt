@@ -3,3 +3,4 @@ pub mod Values
 pub mod Following
 pub mod Accepted
 pub mod JobA
+pub mod Refusals

@@ -4,4 +4,5 @@ pub mod Reading
 pub mod Asked
 pub mod Printed
 pub mod JobA
+pub mod Refusals
 pub mod Steps

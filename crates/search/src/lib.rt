@@ -1,4 +1,6 @@
 // Shared Multi-Heuristic A*: the values that code and definitions share.
+pub mod rules;
+pub mod vertices;
 
 // A vertex (a place): g, its cost when last expanded, its predecessor; closed for the inadmissible
 // searches (guide mark) and for the anchor search (anchor mark), open, and inconsistent (held).

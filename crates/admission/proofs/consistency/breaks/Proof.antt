@@ -22,10 +22,14 @@ shared-slice-read-through : tie.Need-shared-slice-read-through
 shared-slice-read-through c = search needs
 
 cast-through-2 : tie.Need-cast-through-2
-cast-through-2 c = omega (arith, c .shared-slice-known .given (c .before .before .before .before .args .edge .head))
+cast-through-2 c =
+    let e = c .before .before .before .before .args .edge in
+    omega (arith, c .shared-slice-known .given (e .head), c .shared-slice-known .given (e .tail))
 
 add-through : tie.Need-add-through
-add-through c = omega (arith, c .shared-slice-known .given (c .before .before .before .before .args .edge .head))
+add-through c =
+    let e = c .before .before .before .before .args .edge in
+    omega (arith, c .shared-slice-known .given (e .head), c .shared-slice-known .given (e .tail))
 
 mul-result : tie.Need-mul-result
 mul-result c = search needs
@@ -34,7 +38,9 @@ shared-slice-read-result : tie.Need-shared-slice-read-result
 shared-slice-read-result c = search needs
 
 cast-result : tie.Need-cast-result
-cast-result c = omega (arith, c .shared-slice-known2 .given (c .before .before .before .before .before .args .edge .tail))
+cast-result c =
+    let e = c .before .before .before .before .before .args .edge in
+    omega (arith, c .shared-slice-known2 .given (e .head), c .shared-slice-known2 .given (e .tail))
 
 returns : tie.Need-returns
 unfolding breaks

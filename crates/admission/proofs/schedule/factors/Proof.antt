@@ -15,7 +15,7 @@ add-number : tie.Need-add-number
 add-number c = search needs
 
 number-requires-2 : tie.Need-number-requires-2
-number-requires-2 c κs = pairs-within _ _ (c .before .before .pre)
+number-requires-2 c κs = omega (arith, pairs-within _ _ (c .before .before .pre))
 
 returns : tie.Need-returns
 returns c = rw (c .before .number .ensures, c .number2 .ensures) (pairs-at _ _ _ (c .before .before .before .pre))

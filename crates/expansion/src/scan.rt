@@ -1,0 +1,41 @@
+// The least key of a heuristic over all vertices.
+ghost use mathlib.Core.Path.{_≡_};
+ghost use Prim.Native.Nat.{_<_, _≤_};
+ghost use lib.ListN.{length, getD};
+ghost use Rattle.search.specs.Job.{at};
+ghost use Rattle.search.specs.Turn.{key, offered, better, least};
+ghost use Rattle.search.specs.Bounds.{maxFactor, Within};
+ghost use Rattle.search.specs.Lead.{bestOf};
+ghost use Rattle.workspace.specs.Layout.{Room, verticesOf};
+use search::Best;
+use search::rules::Lead;
+use workspace::Size;
+use workspace::layout;
+
+// The better of the best so far and vertex s.
+fn consider(work: &[u32], numbers: &[u32], z: Size, i: u32, w1: u32, s: u32, lead: Lead) -> Lead
+    requires { ⌜ Room z (now work) × (s < z .vertices) × (z .vertices ≤ length (now numbers)) × (w1 ≤ maxFactor) × Within (z .vertices) (bestOf lead) ⌝ }
+    ensures { λ r. ⌜ (bestOf r ≡ better (offered i (getD (now (numbers .entry)) s 0) (at (verticesOf z (now (work .entry))) s)) (key w1 (getD (now (numbers .entry)) s 0) (at (verticesOf z (now (work .entry))) s)) s (bestOf lead)) × Within (z .vertices) (bestOf r) ⌝ }
+{
+    let h = numbers[s as usize];
+    let x = layout::load(work, z, s);
+    if x.offered(i, h) {
+        return lead.better(x.key(w1, h), s);
+    }
+    lead
+}
+
+// The best vertex of heuristic i, whose numbers are given.
+pub fn least(work: &[u32], numbers: &[u32], z: Size, i: u32, w1: u32) -> Best
+    requires { ⌜ Room z (now work) × (z .vertices ≤ length (now numbers)) × (w1 ≤ maxFactor) ⌝ }
+    ensures { λ r. ⌜ (r ≡ least i w1 (now (numbers .entry)) (verticesOf z (now (work .entry)))) × Within (z .vertices) r ⌝ }
+{
+    let vertices = z.vertices;
+    let mut lead = Lead::none();
+    let mut s: u32 = 0;
+    while s < vertices {
+        lead = consider(work, numbers, z, i, w1, s, lead);
+        s += 1;
+    }
+    lead.best()
+}

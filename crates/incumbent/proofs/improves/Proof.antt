@@ -1,0 +1,18 @@
+-- `improves` meets its contract. Assumes nothing.
+use mathlib.Core.Path.{refl}
+use Rattle.incumbent.proofs.Ended.{first-improves, later-improves}
+use Rattle.incumbent.proofs.improves.Statement.{statement}
+use Rattle.incumbent.proofs.improves.Tie as tie
+use Rattle.incumbent.proofs.improves.Reads as reads
+use Rattle.incumbent.proofs.improves.Lts as lts
+
+-- src/lib.rt:32:9
+returns : tie.Need-returns
+returns c = first-improves _ _ (c .if1 .taken)
+
+-- src/lib.rt:28:1
+returns-2 : tie.Need-returns-2
+returns-2 c = later-improves _ _ _ (c .before .if1 .left) refl
+
+pub improves-spec : {M : Type 1} → statement M
+improves-spec = tie.close (tie.spec returns returns-2)

@@ -1,0 +1,36 @@
+-- `lay` meets its contract. Assumes nothing.
+use native.Mathlib.Omega.{arith}
+use Rattle.incumbent.proofs.Laid.{tracedIn-most, laid-whole}
+use borrow.Author.Needs.{needs}
+use Rattle.incumbent.proofs.laying.lay.Statement.{statement}
+use Rattle.incumbent.proofs.laying.lay.Tie as tie
+use Rattle.incumbent.proofs.laying.lay.Reads as reads
+use Rattle.incumbent.proofs.laying.lay.Lts as lts
+use Rattle.incumbent.proofs.laying.fill.Reads as fill-reads
+use Rattle.incumbent.proofs.laying.put_all.Reads as put-all-reads
+
+-- src/laying.rt:56:5
+put-all-requires : tie.Need-put-all-requires
+put-all-requires c κs =
+    let s = c .before .before .before in
+    (s .pre .0, omega (arith, s .pre .1, s .pre .2, tracedIn-most (s .args .z) (s .args .work .now) (s .args .start) (s .args .goal)))
+
+-- src/laying.rt:57:5
+fill-requires : tie.Need-fill-requires
+fill-requires c κs =
+    let s = c .before .before .before .before .before .before .before in
+    let m = tracedIn-most (s .args .z) (s .args .work .now) (s .args .start) (s .args .goal) in
+    (omega (arith, s .pre .2), omega (arith, s .pre .1, s .pre .2))
+
+-- src/laying.rt:52:1
+same-length : tie.Need-same-length
+same-length c = search needs
+
+-- src/laying.rt:52:1
+returns : tie.Need-returns
+returns c =
+    let s = c .before .before .before .before .before .before .before .before .before .before in
+    laid-whole (s .args .z) (s .args .work .now) (s .args .start) (s .args .goal) (s .args .route .now) _ _ (s .args .n) (s .pre .2) (c .before .before .before .before .before .before .put-all .ensures) (s .pre .1) (c .before .before .fill .ensures)
+
+pub lay-spec : {M : Type 1} → statement M
+lay-spec = tie.close (tie.spec put-all-requires fill-requires same-length returns)

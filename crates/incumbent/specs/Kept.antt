@@ -1,0 +1,35 @@
+-- What a finished round does to the incumbent (the kept route) and to route memory, over the words of work memory.
+use Prim.Native.Nat.{ℕ}
+use mathlib.Core.Bool.{cond}
+use mathlib.Core.List.{List, [], _∷_}
+use lib.Dec.{eqb}
+use Rattle.graph.specs.Lists.{over}
+use Rattle.search.specs.declared.Progress.{Progress}
+use Rattle.search.specs.declared.RouteCost.{RouteCost}
+use Rattle.search.specs.Job.{routeEnd}
+use Rattle.search.specs.Walk.{routeCost}
+use Rattle.search.specs.Rounds.{trace, improves, costOr}
+use Rattle.search.specs.Outcome.{routeWords}
+use Rattle.workspace.specs.declared.Size.{Size}
+use Rattle.workspace.specs.Layout.{verticesOf, graphOf}
+
+-- predecessors traced from the goal, as work memory has them
+unfoldable pub tracedIn : Size → List ℕ → ℕ → ℕ → List ℕ
+tracedIn z w start goal = trace (verticesOf z w) start (z .vertices) goal []
+
+-- broken, or their cost
+unfoldable pub tracedCost : Size → List ℕ → ℕ → ℕ → RouteCost
+tracedCost z w start goal = routeCost (graphOf z w) (tracedIn z w start goal)
+
+-- the incumbent's cost after a round whose traced route is c
+unfoldable pub keptCost : RouteCost → Progress → ℕ
+keptCost c p = cond (improves c p) (costOr 0 c) (p .cost)
+
+-- route memory after it, where r is the traced route
+unfoldable pub keptRoute : ℕ → RouteCost → List ℕ → Progress → List ℕ → List ℕ
+keptRoute v c r p old = cond (improves c p) (over (routeWords v r) old) old
+
+-- a route in memory ends before its first 4,294,967,295, or with its slice
+unfoldable pub upToEnd : List ℕ → List ℕ
+upToEnd [] = []
+upToEnd (x ∷ r) = cond (eqb x routeEnd) [] (x ∷ upToEnd r)

@@ -1,0 +1,56 @@
+// What a finished round does to the incumbent (the kept route): the trace of predecessors from the goal,
+// what it costs, and route memory.
+pub mod edges;
+pub mod kept;
+mod laying;
+mod tracing;
+
+ghost use mathlib.Core.Path.{_≡_};
+ghost use Prim.Native.Nat.{_<_, _≤_};
+ghost use lib.ListN.{length};
+ghost use Rattle.search.specs.declared.RouteCost.the-variants.{Cost};
+ghost use Rattle.search.specs.Rounds.{improves};
+ghost use Rattle.workspace.specs.Layout.{Ready};
+ghost use Rattle.incumbent.specs.Kept.{tracedIn, tracedCost, keptCost, keptRoute};
+use search::Progress;
+use search::RouteCost;
+use workspace::Size;
+
+// In route memory: the word after the incumbent's last vertex, and those after it up to V words.
+pub const ROUTE_END: u32 = 4294967295;
+
+// Vertices that a trace has so far: the first of them, their number, and what they are over the edges.
+struct Traced {
+    first: u32,
+    length: u32,
+    cost: RouteCost,
+}
+
+// Whether a route of the cost c becomes the incumbent: none is kept yet, or it is strictly cheaper.
+fn improves(c: u64, p: Progress) -> bool
+    ensures { λ r. ⌜ r ≡ improves (Cost c) p ⌝ }
+{
+    if p.rounds == 0 {
+        return true;
+    }
+    c < p.cost
+}
+
+// A round is finished: the traced route is laid into route memory if it becomes the incumbent. The
+// incumbent's cost after it.
+pub fn keep(work: &[u32], route: &mut [u32], z: Size, start: u32, goal: u32, p: Progress) -> u64
+    requires { ⌜ Ready z (now work) × (goal < z .vertices) × (z .vertices ≤ length (now route)) ⌝ }
+    ensures { λ r. ⌜ r ≡ keptCost (tracedCost z (now (work .entry)) start goal) p ⌝ }
+    ensures { λ r. ⌜ now (route .exit) ≡ keptRoute (z .vertices) (tracedCost z (now (work .entry)) start goal) (tracedIn z (now (work .entry)) start goal) p (now (route .entry)) ⌝ }
+{
+    let t = tracing::traced(work, z, start, goal);
+    let cost = t.cost;
+    let RouteCost::Cost(c) = cost else {
+        return p.cost;
+    };
+    if improves(c, p) {
+        laying::lay(work, route, z, start, goal, t.length);
+        return c;
+    }
+    p.cost
+}

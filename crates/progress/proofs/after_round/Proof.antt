@@ -1,0 +1,20 @@
+-- `after_round` meets its contract. Assumes nothing.
+use mathlib.Core.Path.{_∙_}
+use Rattle.progress.proofs.Laws.{moved-round}
+use borrow.Author.Needs.{needs}
+use Rattle.progress.proofs.after_round.Statement.{statement}
+use Rattle.progress.proofs.after_round.Tie as tie
+use Rattle.progress.proofs.after_round.Reads as reads
+use Rattle.progress.proofs.after_round.Lts as lts
+use Rattle.progress.proofs.stepped.Reads as stepped-reads
+
+-- src/lib.rt:66:5
+stepped-requires : tie.Need-stepped-requires
+stepped-requires c κs = search needs
+
+-- src/lib.rt:62:1
+returns : tie.Need-returns
+returns c = c .stepped .ensures ∙ moved-round _ _ _
+
+pub after-round-spec : {M : Type 1} → statement M
+after-round-spec = tie.close (tie.spec stepped-requires returns)

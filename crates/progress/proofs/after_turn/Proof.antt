@@ -1,0 +1,20 @@
+-- `after_turn` meets its contract. Assumes nothing.
+use mathlib.Core.Path.{_∙_}
+use Rattle.progress.proofs.Laws.{moved-turn}
+use borrow.Author.Needs.{needs}
+use Rattle.progress.proofs.after_turn.Statement.{statement}
+use Rattle.progress.proofs.after_turn.Tie as tie
+use Rattle.progress.proofs.after_turn.Reads as reads
+use Rattle.progress.proofs.after_turn.Lts as lts
+use Rattle.progress.proofs.stepped.Reads as stepped-reads
+
+-- src/lib.rt:58:5
+stepped-requires : tie.Need-stepped-requires
+stepped-requires c κs = search needs
+
+-- src/lib.rt:53:1
+returns : tie.Need-returns
+returns c = c .stepped .ensures ∙ moved-turn _ _
+
+pub after-turn-spec : {M : Type 1} → statement M
+after-turn-spec = tie.close (tie.spec stepped-requires returns)

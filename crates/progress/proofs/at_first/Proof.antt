@@ -1,0 +1,20 @@
+-- `at_first` meets its contract. Assumes nothing.
+use Rattle.progress.specs.Moved.{firstProgress}
+use borrow.Author.Needs.{needs}
+use Rattle.progress.proofs.at_first.Statement.{statement}
+use Rattle.progress.proofs.at_first.Tie as tie
+use Rattle.progress.proofs.at_first.Reads as reads
+use Rattle.progress.proofs.at_first.Lts as lts
+use Rattle.search.proofs.rules.first_turn.Reads as first-turn-reads
+
+-- src/lib.rt:15:15
+first-turn-requires : tie.Need-first-turn-requires
+first-turn-requires c κs = search needs
+
+-- src/lib.rt:11:1
+returns : tie.Need-returns
+unfolding firstProgress
+returns c = rw (c .first-turn .ensures)
+
+pub at-first-spec : {M : Type 1} → statement M
+at-first-spec = tie.close (tie.spec first-turn-requires returns)

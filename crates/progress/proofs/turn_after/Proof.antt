@@ -1,0 +1,28 @@
+-- `turn_after` meets its contract. Assumes nothing.
+use Rattle.progress.proofs.Laws.{turn-restarted, turn-passed}
+use borrow.Author.Needs.{needs}
+use Rattle.progress.proofs.turn_after.Statement.{statement}
+use Rattle.progress.proofs.turn_after.Tie as tie
+use Rattle.progress.proofs.turn_after.Reads as reads
+use Rattle.progress.proofs.turn_after.Lts as lts
+use Rattle.search.proofs.rules.first_turn.Reads as first-turn-reads
+use Rattle.search.proofs.rules.next_turn.Reads as next-turn-reads
+
+-- src/lib.rt:15:9
+first-turn-requires : tie.Need-first-turn-requires
+first-turn-requires c κs = search needs
+
+-- src/lib.rt:15:9
+returns : tie.Need-returns
+returns c = turn-restarted _ _ _ _ (c .before .if1 .taken) (c .first-turn .ensures)
+
+-- src/lib.rt:17:5
+next-turn-requires : tie.Need-next-turn-requires
+next-turn-requires c κs = search needs
+
+-- src/lib.rt:11:1
+returns-2 : tie.Need-returns-2
+returns-2 c = turn-passed _ _ _ _ (c .before .if1 .left) (c .next-turn .ensures)
+
+pub turn-after-spec : {M : Type 1} → statement M
+turn-after-spec = tie.close (tie.spec first-turn-requires returns next-turn-requires returns-2)

@@ -1,0 +1,79 @@
+// The record of the search in hand: each turn, and each round's end, moves it on.
+ghost use mathlib.Core.Path.{_≡_};
+ghost use mathlib.Core.Bool.{cond};
+ghost use Prim.Native.Nat.{_<_};
+ghost use Rattle.search.specs.Rounds.{turned, ended};
+ghost use Rattle.progress.specs.Moved.{firstProgress, turnAfter, counted, moved, maxCount};
+use search::Progress;
+use search::rules;
+
+// The record at first.
+pub fn at_first(guides: u32) -> Progress
+    ensures { λ r. ⌜ r ≡ firstProgress guides ⌝ }
+{
+    Progress {
+        turn: rules::first_turn(guides),
+        expansions: 0,
+        rounds: 0,
+        cost: 0,
+    }
+}
+
+// Whose turn it is after a round's end, or after a turn.
+fn turn_after(ends: bool, guides: u32, turn: u32) -> u32
+    ensures { λ r. ⌜ r ≡ turnAfter ends guides turn ⌝ }
+{
+    if ends {
+        return rules::first_turn(guides);
+    }
+    rules::next_turn(guides, turn)
+}
+
+// A count, and one more where that is due.
+fn counted(more: bool, n: u32) -> u32
+    requires { ⌜ cond more n 0 < maxCount ⌝ }
+    ensures { λ r. ⌜ r ≡ counted more n ⌝ }
+{
+    if more { n + 1 } else { n }
+}
+
+// A round's end moves the record on, or a turn does. The incumbent costs `cost` after it.
+fn step(p: &mut Progress, guides: u32, ends: bool, cost: u64)
+    requires { ⌜ cond ends (now p .rounds) (now p .expansions) < maxCount ⌝ }
+    ensures { λ _. ⌜ now (p .exit) ≡ moved ends guides cost (now (p .entry)) ⌝ }
+{
+    let turn = turn_after(ends, guides, p.turn);
+    let expansions = counted(!ends, p.expansions);
+    let rounds = counted(ends, p.rounds);
+    p.turn = turn;
+    p.expansions = expansions;
+    p.rounds = rounds;
+    p.cost = cost;
+}
+
+// The same by value.
+fn stepped(p: Progress, guides: u32, ends: bool, cost: u64) -> Progress
+    requires { ⌜ cond ends (p .rounds) (p .expansions) < maxCount ⌝ }
+    ensures { λ r. ⌜ r ≡ moved ends guides cost p ⌝ }
+{
+    let mut q = p;
+    step(&mut q, guides, ends, cost);
+    q
+}
+
+// The record after a turn.
+pub fn after_turn(guides: u32, p: Progress) -> Progress
+    requires { ⌜ p .expansions < maxCount ⌝ }
+    ensures { λ r. ⌜ r ≡ turned guides p ⌝ }
+{
+    let cost = p.cost;
+    stepped(p, guides, false, cost)
+}
+
+// The record after a round's end, where the incumbent now has this cost.
+pub fn after_round(guides: u32, cost: u64, p: Progress) -> Progress
+    requires { ⌜ p .rounds < maxCount ⌝ }
+    ensures { λ r. ⌜ r ≡ ended guides cost p ⌝ }
+{
+    stepped(p, guides, true, cost)
+}

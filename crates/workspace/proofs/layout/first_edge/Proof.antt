@@ -1,0 +1,25 @@
+-- `first_edge` meets its contract. Assumes nothing.
+use native.Mathlib.Omega.{arith}
+use Rattle.workspace.specs.Layout.{base, firstOf}
+use borrow.Author.Needs.{needs}
+use Rattle.workspace.proofs.layout.first_edge.Statement.{statement}
+use Rattle.workspace.proofs.layout.first_edge.Tie as tie
+use Rattle.workspace.proofs.layout.first_edge.Reads as reads
+use Rattle.workspace.proofs.layout.first_edge.Lts as lts
+
+-- src/layout.rt:46:5
+mul-result : tie.Need-mul-result
+mul-result c = search needs
+
+-- src/layout.rt:46:5
+shared-slice-read-result : tie.Need-shared-slice-read-result
+unfolding base
+shared-slice-read-result c = omega arith
+
+-- src/layout.rt:42:1
+returns : tie.Need-returns
+unfolding firstOf
+returns c = search needs
+
+pub first-edge-spec : {M : Type 1} → statement M
+first-edge-spec = tie.close (tie.spec mul-result shared-slice-read-result returns)

@@ -1,0 +1,24 @@
+-- Work memory holds a graph and vertices: the one relation between its words and the state of a search.
+use Prim.Native.Nat.{ℕ, _≤_, _<_}
+use mathlib.Core.Path.{_≡_}
+use mathlib.Core.List.{List, [], _∷_}
+use lib.ListN.{length}
+use Rattle.graph.specs.declared.Edge.{Edge}
+use Rattle.graph.specs.Lists.{over}
+use Rattle.search.specs.declared.Vertex.{Vertex}
+use Rattle.search.specs.Outcome.{workWords}
+use Rattle.workspace.specs.declared.Size.{Size}
+use Rattle.workspace.specs.Layout.{Room}
+
+-- edges of v vertices, whose tails rise from p on
+pub data Rising (v : ℕ) : ℕ → List Edge → Type 0 where
+  end : {p : ℕ} → Rising v p []
+  then : {p : ℕ} {e : Edge} {es : List Edge} → p ≤ e .tail → e .tail < v → e .head < v → Rising v (e .tail) es → Rising v p (e ∷ es)
+
+-- the words w are those of the edges es and the vertices st, laid over the words `old`
+pub record Holds (z : Size) (es : List Edge) (st : List Vertex) (old w : List ℕ) : Type 0 where
+  pub words : w ≡ over (workWords (z .vertices) es st) old
+  pub room : Room z old
+  pub vertices : length st ≡ z .vertices
+  pub edges : length es ≡ z .edges
+  pub rising : Rising (z .vertices) 0 es

@@ -1,0 +1,98 @@
+-- The layout of work memory: V+1 first edge numbers (the last is M), M heads, M costs, and four words together for each vertex.
+use Prim.Native.Nat.{ℕ, zero, suc, _+_, _-_, _*_, _/_, _%_, _≤_, _<_}
+use mathlib.Core.Path.{_≡_}
+use mathlib.Core.Bool.{Bool}
+use mathlib.Core.List.{List, [], _∷_, _++_, map}
+use lib.Dec.{eqb}
+use lib.ListN.{length, getD, take, drop}
+use Rattle.graph.specs.declared.Edge.{Edge}
+use Rattle.graph.specs.Lists.{headOf, costOf, over}
+use Rattle.search.specs.declared.Vertex.{Vertex}
+use Rattle.search.specs.Outcome.{firstEdges, vertexWords}
+use Rattle.search.specs.Bounds.{maxG}
+use Rattle.workspace.specs.declared.Size.{Size}
+
+-- the first word of the vertices
+unfoldable pub base : Size → ℕ
+base z = z .vertices + 1 + 2 * z .edges
+
+-- room for the graph and the vertices
+abbrev pub Room : Size → List ℕ → Type 0
+Room z w = base z + 4 * z .vertices ≤ length w
+
+-- ---- the vertices
+
+-- whether the mark k is part of a sum of marks
+abbrev pub hasMark : ℕ → ℕ → Bool
+hasMark k m = eqb (m / k % 2) 1
+
+-- the vertex whose words start at o
+unfoldable pub vertexAt : List ℕ → ℕ → Vertex
+vertexAt w o =
+    record {
+      g = getD w o 0;
+      v = getD w (o + 1) 0;
+      pred = getD w (o + 2) 0;
+      inad = hasMark 1 (getD w (o + 3) 0);
+      anchor = hasMark 2 (getD w (o + 3) 0);
+      opened = hasMark 4 (getD w (o + 3) 0);
+      incons = hasMark 8 (getD w (o + 3) 0);
+    }
+
+-- n vertices from the front of the words
+unfoldable pub verticesIn : ℕ → List ℕ → List Vertex
+verticesIn zero w = []
+verticesIn (suc n) w = vertexAt w 0 ∷ verticesIn n (drop 4 w)
+
+unfoldable pub verticesOf : Size → List ℕ → List Vertex
+verticesOf z w = verticesIn (z .vertices) (drop (base z) w)
+
+-- the words with these vertices, the rest unchanged
+unfoldable pub written : Size → List Vertex → List ℕ → List ℕ
+written z st w = take (base z) w ++ over (vertexWords st) (drop (base z) w)
+
+-- ---- the graph
+
+-- the number of the first edge of vertex t; for t = V the count of edges
+unfoldable pub firstOf : List ℕ → ℕ → ℕ
+firstOf w t = getD w t 0
+
+-- edge j, of the tail t
+unfoldable pub edgeAt : Size → List ℕ → ℕ → ℕ → Edge
+edgeAt z w t j = record { tail = t; head = getD w (z .vertices + 1 + j) 0; cost = getD w (z .vertices + 1 + z .edges + j) 0 }
+
+-- n edges of the tail t from edge j on
+unfoldable pub edgesRun : Size → List ℕ → ℕ → ℕ → ℕ → List Edge
+edgesRun z w t zero j = []
+edgesRun z w t (suc n) j = edgeAt z w t j ∷ edgesRun z w t n (suc j)
+
+-- the edges of the tail t
+unfoldable pub edgesAt : Size → List ℕ → ℕ → List Edge
+edgesAt z w t = edgesRun z w t (firstOf w (suc t) - firstOf w t) (firstOf w t)
+
+-- the edges of n tails from t on
+unfoldable pub edgesUnder : Size → List ℕ → ℕ → ℕ → List Edge
+edgesUnder z w zero t = []
+edgesUnder z w (suc n) t = edgesAt z w t ++ edgesUnder z w n (suc t)
+
+unfoldable pub graphOf : Size → List ℕ → List Edge
+graphOf z w = edgesUnder z w (z .vertices) 0
+
+-- the words of a graph: first edges, heads, costs
+unfoldable pub graphWords : ℕ → List Edge → List ℕ
+graphWords v es = firstEdges (suc v) 0 es ++ (map headOf es ++ map costOf es)
+
+-- ---- what contracts ask
+
+-- a vertex whose costs fit into a word
+pub record Fits (x : Vertex) : Type 0 where
+  pub g : x .g ≤ maxG
+  pub v : x .v ≤ maxG
+
+-- the words are those of vertices and of a graph
+pub record Ready (z : Size) (w : List ℕ) : Type 0 where
+  pub room : Room z w
+  pub whole : written z (verticesOf z w) w ≡ w
+  pub rise : (t : ℕ) → t < z .vertices → firstOf w t ≤ firstOf w (suc t)
+  pub ends : (t : ℕ) → t < z .vertices → firstOf w (suc t) ≤ z .edges
+  pub heads : (t j : ℕ) → j < z .edges → edgeAt z w t j .head < z .vertices
