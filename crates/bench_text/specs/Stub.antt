@@ -8,6 +8,6 @@ use Rattle.search.specs.Outcome.{answer, memoryAfter}
 
 pub record Handed (c : Call) (r : Answer) (route log work : List ℕ) : Type 0 where
   pub answers : r ≡ answer c
-  pub kept : route ≡ memoryAfter c .route
-  pub logged : log ≡ memoryAfter c .log
-  pub worked : work ≡ memoryAfter c .work
+  pub route-is : route ≡ memoryAfter c .route
+  pub log-is : log ≡ memoryAfter c .log
+  pub work-is : work ≡ memoryAfter c .work

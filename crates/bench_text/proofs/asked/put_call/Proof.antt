@@ -46,7 +46,7 @@ returns : tie.Need-returns
 unfolding callWith zeros
 returns c =
     let h = c .before .before .before .before .before .before .before .before .before .plan .ensures in
-    handed-text _ _ _ _ (h .answers) (h .kept) (h .logged) (c .before .before .put-answer .ensures)
+    handed-text _ _ _ _ (h .answers) (h .route-is) (h .log-is) (c .before .before .put-answer .ensures)
 
 pub put-call-spec : {M : Type 1} → statement M
 put-call-spec =
