@@ -9,53 +9,38 @@ use Rattle.bench_text.proofs.Lines.{text-fits}
 use borrow.Author.Needs.{needs}
 use Rattle.bench.proofs.main.Statement.{statement}
 use Rattle.bench.proofs.main.Tie as tie
-use Rattle.bench.proofs.main.Reads as reads
-use Rattle.bench.proofs.main.Lts as lts
-use Rattle.bench_text.proofs.bench_text.Reads as bench-text-reads
-use Rattle.io.proofs.read_full.Reads as read-full-reads
-use Rattle.io.proofs.write_all.Reads as write-all-reads
 
 -- the buffer has room for every text
 room : maxText ≤ length {A = ℕ} (replicate maxText 0)
 room = omega (arith, length-replicate {A = ℕ} maxText 0)
 
--- src/main.rt:13:44
 slice-aggregate-read-full : tie.Need-slice-aggregate-read-full
 slice-aggregate-read-full c = search needs
 
--- src/main.rt:13:9
 read-full-requires : tie.Need-read-full-requires
 read-full-requires c κs = search needs
 
--- src/main.rt:15:41
 array-share-prefix-job : tie.Need-array-share-prefix-job
 array-share-prefix-job c = search needs
 
--- src/main.rt:15:41
 slice-aggregate-bench-text : tie.Need-slice-aggregate-bench-text
 slice-aggregate-bench-text c = search needs
 
--- src/main.rt:15:55
 slice-aggregate-bench-text-2 : tie.Need-slice-aggregate-bench-text-2
 slice-aggregate-bench-text-2 c = search needs
 
--- src/main.rt:15:9
 bench-text-requires : tie.Need-bench-text-requires
 bench-text-requires c κs = search needs
 
--- src/main.rt:16:34
 array-share-prefix-text : tie.Need-array-share-prefix-text
 array-share-prefix-text c = text-fits room (c .before .bench-text .ensures)
 
--- src/main.rt:16:34
 slice-aggregate-write-all : tie.Need-slice-aggregate-write-all
 slice-aggregate-write-all c = sym (length-take-le _ _ (text-fits room (c .before .before .bench-text .ensures)))
 
--- src/main.rt:16:5
 write-all-requires : tie.Need-write-all-requires
 write-all-requires c κs = search needs
 
--- src/main.rt:11:1
 returns : tie.Need-returns
 returns c = search needs
 

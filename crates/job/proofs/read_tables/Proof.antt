@@ -8,58 +8,44 @@ use Rattle.job.specs.Reading.{tableCount, afterTables, afterSizes}
 use borrow.Author.Needs.{needs}
 use Rattle.job.proofs.read_tables.Statement.{statement}
 use Rattle.job.proofs.read_tables.Tie as tie
-use Rattle.job.proofs.read_tables.Reads as reads
-use Rattle.job.proofs.read_tables.Lts as lts
-use Rattle.job.proofs.numbers.past.Reads as past-reads
 
--- src/lib.rt:60:9
 returns : tie.Need-returns
 unfolding afterSizes afterTables tableCount
 returns c = simp (lt-ltb _ _ (c .if1 .taken))
 
--- src/lib.rt:63:9
 returns-2 : tie.Need-returns-2
 unfolding afterSizes afterTables tableCount
 returns-2 c = simp (le-ltb _ _ (c .before .if1 .left), lt-ltb _ _ (c .if2 .taken))
 
--- src/lib.rt:65:21
 cast-count : tie.Need-cast-count
 cast-count c = search needs
 
--- src/lib.rt:65:17
 add-count : tie.Need-add-count
 add-count c = search needs
 
--- src/lib.rt:66:67
 mul-past : tie.Need-mul-past
 mul-past c =
     let a = c .before .before .before .before .args in
     let h : a .vertices ≤ 256 = c .before .before .if1 .left in
     record { fits = omega (arith, mul-le-mul-left (1 + a .front .guides) h) }
 
--- src/lib.rt:66:34
 past-requires : tie.Need-past-requires
 past-requires c κs = search needs
 
--- src/lib.rt:66:27
 enum-known-end : tie.Need-enum-known-end
 enum-known-end c = search needs
 
--- src/lib.rt:67:9
 enum-told : tie.Need-enum-told
 enum-told c = search needs
 
--- src/lib.rt:67:9
 returns-3 : tie.Need-returns-3
 unfolding afterSizes afterTables tableCount
 returns-3 c = simp (le-ltb _ _ (c .before .before .before .before .before .if1 .left), le-ltb _ _ (c .before .before .before .before .if2 .left), sym (c .before .before .past .ensures) ∙ c .enum-told .given .1)
 
--- src/lib.rt:56:1
 returns-4 : tie.Need-returns-4
 unfolding afterSizes afterTables tableCount
 returns-4 c = simp (le-ltb _ _ (c .before .before .before .before .before .before .before .if1 .left), le-ltb _ _ (c .before .before .before .before .before .before .if2 .left), sym (c .before .before .before .before .past .ensures) ∙ c .before .before .end .given .1, lt-ltb _ _ (c .if3 .taken))
 
--- src/lib.rt:56:1
 returns-5 : tie.Need-returns-5
 unfolding afterSizes afterTables tableCount
 returns-5 c = simp (le-ltb _ _ (c .before .before .before .before .before .before .before .if1 .left), le-ltb _ _ (c .before .before .before .before .before .before .if2 .left), sym (c .before .before .before .before .past .ensures) ∙ c .before .before .end .given .1, le-ltb _ _ (c .if3 .left))

@@ -4,64 +4,46 @@ use Rattle.bench_text.proofs.Calls.{factors-few, numbers-few, factors-s
 use borrow.Author.Needs.{needs}
 use Rattle.bench_text.proofs.asked.put_job.Statement.{statement}
 use Rattle.bench_text.proofs.asked.put_job.Tie as tie
-use Rattle.bench_text.proofs.asked.put_job.Reads as reads
-use Rattle.bench_text.proofs.asked.put_job.Lts as lts
-use Rattle.bench_text.proofs.asked.put_stored.Reads as put-stored-reads
-use Rattle.job.proofs.numbers.store.Reads as store-reads
 
--- src/asked.rt:81:23
 cast-factors : tie.Need-cast-factors
 cast-factors c = search needs
 
--- src/asked.rt:81:19
 mul-factors : tie.Need-mul-factors
 mul-factors c = search needs
 
--- src/asked.rt:82:20
 cast-all : tie.Need-cast-all
 cast-all c = search needs
 
--- src/asked.rt:82:16
 add-all : tie.Need-add-all
 add-all c = search needs
 
--- src/asked.rt:82:15
 mul-all : tie.Need-mul-all
 mul-all c = let a = c .before .before .before .before in record { fits = omega (arith, numbers-few (a .args .job .now) (a .args .front) (a .args .vertices) (a .pre)) }
 
--- src/asked.rt:85:49
 slice-aggregate-store : tie.Need-slice-aggregate-store
 slice-aggregate-store c = search needs
 
--- src/asked.rt:85:5
 store-requires : tie.Need-store-requires
 store-requires c κs = let a = c .before .before .before .before .before in factors-few (a .args .job .now) (a .args .front) (a .args .vertices) (a .pre)
 
--- src/asked.rt:86:44
 slice-aggregate-store-2 : tie.Need-slice-aggregate-store-2
 slice-aggregate-store-2 c = search needs
 
--- src/asked.rt:86:5
 store-requires-2 : tie.Need-store-requires-2
 store-requires-2 c κs = let a = c .before .before .before .before .before .before .before .before in numbers-few (a .args .job .now) (a .args .front) (a .args .vertices) (a .pre)
 
--- src/asked.rt:87:43
 array-share-prefix-schedule : tie.Need-array-share-prefix-schedule
 array-share-prefix-schedule c = let a = c .before .before .before .before .before .before .before .before .before .before .before in factors-stored (a .args .job .now) (a .args .front) (a .args .vertices) (a .pre) _ (c .before .before .before .before .before .store .ensures) .fits
 
--- src/asked.rt:87:43
 slice-aggregate-put-stored : tie.Need-slice-aggregate-put-stored
 slice-aggregate-put-stored c = let a = c .before .before .before .before .before .before .before .before .before .before .before .before in factors-stored (a .args .job .now) (a .args .front) (a .args .vertices) (a .pre) _ (c .before .before .before .before .before .before .store .ensures) .size
 
--- src/asked.rt:87:65
 array-share-prefix-tables : tie.Need-array-share-prefix-tables
 array-share-prefix-tables c = let a = c .before .before .before .before .before .before .before .before .before .before .before .before in tables-stored (a .args .job .now) (a .args .front) (a .args .vertices) (a .pre) _ (c .before .before .before .store2 .ensures) .fits
 
--- src/asked.rt:87:65
 slice-aggregate-put-stored-2 : tie.Need-slice-aggregate-put-stored-2
 slice-aggregate-put-stored-2 c = let a = c .before .before .before .before .before .before .before .before .before .before .before .before .before in tables-stored (a .args .job .now) (a .args .front) (a .args .vertices) (a .pre) _ (c .before .before .before .before .store2 .ensures) .size
 
--- src/asked.rt:87:5
 put-stored-requires : tie.Need-put-stored-requires
 put-stored-requires c κs =
     let a = c .before .before .before .before .before .before .before .before .before .before .before .before .before in
@@ -71,11 +53,9 @@ put-stored-requires c κs =
       tables = tables-stored (a .args .job .now) (a .args .front) (a .args .vertices) (a .pre) _ (c .before .before .before .before .store2 .ensures) .is;
     }
 
--- src/asked.rt:77:1
 same-length : tie.Need-same-length
 same-length c = search needs
 
--- src/asked.rt:77:1
 returns : tie.Need-returns
 returns c = search needs
 

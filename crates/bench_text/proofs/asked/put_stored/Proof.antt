@@ -6,52 +6,38 @@ use Rattle.bench_text.proofs.Calls.{first-table, call-is}
 use borrow.Author.Needs.{needs}
 use Rattle.bench_text.proofs.asked.put_stored.Statement.{statement}
 use Rattle.bench_text.proofs.asked.put_stored.Tie as tie
-use Rattle.bench_text.proofs.asked.put_stored.Reads as reads
-use Rattle.bench_text.proofs.asked.put_stored.Lts as lts
-use Rattle.bench_text.proofs.asked.put_call.Reads as put-call-reads
 
--- src/asked.rt:71:9
 slice-aggregate-anchor : tie.Need-slice-aggregate-anchor
 slice-aggregate-anchor c =
     let a = c .before .before .before .before .before in sym (length-take-le _ _ (first-table (a .args .job .now) (a .args .front) _ _ _ (a .pre)))
 
--- src/asked.rt:72:18
 mul-sheets : tie.Need-mul-sheets
 mul-sheets c = search needs
 
--- src/asked.rt:72:18
 sub-sheets : tie.Need-sub-sheets
 sub-sheets c = let a = c .before .before .before .before .before in first-table (a .args .job .now) (a .args .front) _ _ _ (a .pre)
 
--- src/asked.rt:72:18
 part-sheets-start : tie.Need-part-sheets-start
 part-sheets-start c = let a = c .before .before .before .before .before in first-table (a .args .job .now) (a .args .front) _ _ _ (a .pre)
 
--- src/asked.rt:72:18
 part-sheets-end : tie.Need-part-sheets-end
 part-sheets-end c = search needs
 
--- src/asked.rt:73:19
 sub-put-call : tie.Need-sub-put-call
 sub-put-call c = let a = c .before .before .before .before .before .before .before in accepted-ready (a .args .job .now) (a .args .front) (a .args .vertices) (a .pre .accepted) .fits .plan
 
--- src/asked.rt:73:19
 part-put-call-start : tie.Need-part-put-call-start
 part-put-call-start c = let a = c .before .before .before .before .before .before .before in accepted-ready (a .args .job .now) (a .args .front) (a .args .vertices) (a .pre .accepted) .fits .plan
 
--- src/asked.rt:73:19
 part-put-call-end : tie.Need-part-put-call-end
 part-put-call-end c = let a = c .before .before .before .before .before .before .before in accepted-ready (a .args .job .now) (a .args .front) (a .args .vertices) (a .pre .accepted) .fits .end
 
--- src/asked.rt:73:5
 put-call-requires : tie.Need-put-call-requires
 put-call-requires c κs = search needs
 
--- src/asked.rt:57:1
 same-length : tie.Need-same-length
 same-length c = search needs
 
--- src/asked.rt:57:1
 returns : tie.Need-returns
 returns c =
     let a = c .before .before .before .before .before .before .before .before .before .before .before in rw (call-is (a .args .job .now) (a .args .front) (a .args .vertices) (a .args .schedule .now) (a .args .tables .now) (a .pre)) at (c .before .before .put-call .ensures)

@@ -4,74 +4,52 @@ use Rattle.job.specs.Printed.{turns, ending, printed}
 use borrow.Author.Needs.{needs}
 use Rattle.bench_text.proofs.ending.put_answer.Statement.{statement}
 use Rattle.bench_text.proofs.ending.put_answer.Tie as tie
-use Rattle.bench_text.proofs.ending.put_answer.Reads as reads
-use Rattle.bench_text.proofs.ending.put_answer.Lts as lts
-use Rattle.bench_text.proofs.ending.put_no_route.Reads as put-no-route-reads
-use Rattle.bench_text.proofs.ending.put_refused.Reads as put-refused-reads
-use Rattle.bench_text.proofs.ending.put_route.Reads as put-route-reads
-use Rattle.bench_text.proofs.ending.put_unfinished.Reads as put-unfinished-reads
 
--- src/ending.rt:57:23
 enum-known-answer : tie.Need-enum-known-answer
 enum-known-answer c = search needs
 
--- src/ending.rt:57:35
 put-route-requires : tie.Need-put-route-requires
 put-route-requires c κs = search needs
 
--- src/ending.rt:58:25
 enum-known-answer-2 : tie.Need-enum-known-answer-2
 enum-known-answer-2 c = search needs
 
--- src/ending.rt:58:35
 put-no-route-requires : tie.Need-put-no-route-requires
 put-no-route-requires c κs = search needs
 
--- src/ending.rt:59:28
 enum-known-answer-3 : tie.Need-enum-known-answer-3
 enum-known-answer-3 c = search needs
 
--- src/ending.rt:59:38
 put-unfinished-requires : tie.Need-put-unfinished-requires
 put-unfinished-requires c κs = search needs
 
--- src/ending.rt:60:25
 enum-known-answer-4 : tie.Need-enum-known-answer-4
 enum-known-answer-4 c = search needs
 
--- src/ending.rt:60:34
 put-refused-requires : tie.Need-put-refused-requires
 put-refused-requires c κs = search needs
 
--- src/ending.rt:52:1
 same-length : tie.Need-same-length
 same-length c = search needs
 
--- src/ending.rt:52:1
 returns : tie.Need-returns
 returns c = rw (c .before .before .before .before .before .answer .given .1) (c .before .before .put-route .ensures)
 
--- src/ending.rt:52:1
 same-length-2 : tie.Need-same-length-2
 same-length-2 c = search needs
 
--- src/ending.rt:52:1
 returns-2 : tie.Need-returns-2
 returns-2 c = rw (c .before .before .before .before .before .answer2 .given .1) (c .before .before .put-no-route .ensures)
 
--- src/ending.rt:52:1
 same-length-3 : tie.Need-same-length-3
 same-length-3 c = search needs
 
--- src/ending.rt:52:1
 returns-3 : tie.Need-returns-3
 returns-3 c = rw (c .before .before .before .before .before .answer3 .given .1) (c .before .before .put-unfinished .ensures)
 
--- src/ending.rt:52:1
 same-length-4 : tie.Need-same-length-4
 same-length-4 c = search needs
 
--- src/ending.rt:52:1
 returns-4 : tie.Need-returns-4
 unfolding printed ending turns figures
 returns-4 c = rw (c .before .before .before .before .before .answer4 .given .1) (c .before .before .put-refused .ensures)

@@ -6,27 +6,19 @@ use Rattle.bench_text.proofs.Lines.{turns-few, no-route-few, one-line}
 use borrow.Author.Needs.{needs}
 use Rattle.bench_text.proofs.ending.put_no_route.Statement.{statement}
 use Rattle.bench_text.proofs.ending.put_no_route.Tie as tie
-use Rattle.bench_text.proofs.ending.put_no_route.Reads as reads
-use Rattle.bench_text.proofs.ending.put_no_route.Lts as lts
-use Rattle.text.proofs.put_no_route_line.Reads as put-no-route-line-reads
-use Rattle.text.proofs.put_turn_lines.Reads as put-turn-lines-reads
 
--- src/ending.rt:31:9
 put-turn-lines-requires : tie.Need-put-turn-lines-requires
 put-turn-lines-requires c κs =
     omega (arith, turns-few (c .before .before .before .before .args .turns) (c .before .before .before .before .args .log .now) (c .before .shared-slice-known2 .given) (c .before .before .before .before .pre .short-log))
 
--- src/ending.rt:32:5
 put-no-route-line-requires : tie.Need-put-no-route-line-requires
 put-no-route-line-requires c κs =
     let a = c .before .before .before .before .before .before .before .before in
     omega (arith, turns-few (a .args .turns) (a .args .log .now) (c .before .before .before .before .before .shared-slice-known2 .given) (a .pre .short-log), c .before .before .before .put-turn-lines .ensures .next, no-route-few (a .args .turns) (omega arith))
 
--- src/ending.rt:27:1
 same-length : tie.Need-same-length
 same-length c = search needs
 
--- src/ending.rt:27:1
 returns : tie.Need-returns
 unfolding printed ending turns figures
 returns c =

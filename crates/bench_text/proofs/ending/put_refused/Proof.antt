@@ -4,20 +4,14 @@ use Rattle.bench_text.proofs.Lines.{refused-few}
 use borrow.Author.Needs.{needs}
 use Rattle.bench_text.proofs.ending.put_refused.Statement.{statement}
 use Rattle.bench_text.proofs.ending.put_refused.Tie as tie
-use Rattle.bench_text.proofs.ending.put_refused.Reads as reads
-use Rattle.bench_text.proofs.ending.put_refused.Lts as lts
-use Rattle.text.proofs.put_refused_line.Reads as put-refused-line-reads
 
--- src/ending.rt:48:5
 put-refused-line-requires : tie.Need-put-refused-line-requires
 put-refused-line-requires c κs =
     omega (arith, refused-few (c .before .before .args .number) (c .before .before .args .position) (omega arith) (omega arith))
 
--- src/ending.rt:45:1
 same-length : tie.Need-same-length
 same-length c = search needs
 
--- src/ending.rt:45:1
 returns : tie.Need-returns
 returns c =
     let a = c .before .before .before .before .before .args in

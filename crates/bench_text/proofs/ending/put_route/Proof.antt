@@ -6,26 +6,17 @@ use Rattle.bench_text.proofs.Lines.{turns-few, route-few, end-few, two-
 use borrow.Author.Needs.{needs}
 use Rattle.bench_text.proofs.ending.put_route.Statement.{statement}
 use Rattle.bench_text.proofs.ending.put_route.Tie as tie
-use Rattle.bench_text.proofs.ending.put_route.Reads as reads
-use Rattle.bench_text.proofs.ending.put_route.Lts as lts
-use Rattle.text.proofs.put_end_line.Reads as put-end-line-reads
-use Rattle.text.proofs.put_route_line.Reads as put-route-line-reads
-use Rattle.text.proofs.put_turn_lines.Reads as put-turn-lines-reads
 
--- src/ending.rt:14:48
 cast-put-turn-lines : tie.Need-cast-put-turn-lines
 cast-put-turn-lines c = search needs
 
--- src/ending.rt:14:9
 put-turn-lines-requires : tie.Need-put-turn-lines-requires
 put-turn-lines-requires c κs =
     omega (arith, turns-few (c .before .before .before .before .args .summary .expansions) (c .before .before .before .before .args .log .now) (c .before .shared-slice-known2 .given) (c .before .before .before .before .pre .short-log))
 
--- src/ending.rt:15:52
 cast-put-route-line : tie.Need-cast-put-route-line
 cast-put-route-line c = search needs
 
--- src/ending.rt:15:9
 put-route-line-requires : tie.Need-put-route-line-requires
 put-route-line-requires c κs =
     let a = c .before .before .before .before .before .before .before .before in
@@ -36,19 +27,15 @@ put-route-line-requires c κs =
       route-few (a .args .summary .length) (a .args .route .now) (c .before .before .before .before .before .before .shared-slice-known .given) (a .pre .short-route),
     )
 
--- src/ending.rt:20:9
 cast-put-end-line : tie.Need-cast-put-end-line
 cast-put-end-line c = search needs
 
--- src/ending.rt:21:9
 cast-put-end-line-2 : tie.Need-cast-put-end-line-2
 cast-put-end-line-2 c = search needs
 
--- src/ending.rt:22:9
 cast-put-end-line-3 : tie.Need-cast-put-end-line-3
 cast-put-end-line-3 c = search needs
 
--- src/ending.rt:16:5
 put-end-line-requires : tie.Need-put-end-line-requires
 put-end-line-requires c κs =
     let a = c .before .before .before .before .before .before .before .before .before .before .before .before .before .before in
@@ -62,11 +49,9 @@ put-end-line-requires c κs =
       end-few (s .cost) (s .rounds) (s .expansions) (s .bound) (omega arith) (omega arith) (omega arith) (omega arith),
     )
 
--- src/ending.rt:8:1
 same-length : tie.Need-same-length
 same-length c = search needs
 
--- src/ending.rt:8:1
 returns : tie.Need-returns
 unfolding printed ending turns figures
 returns c =

@@ -4,67 +4,49 @@ use Rattle.job.proofs.Following.{follows, follows-none}
 use borrow.Author.Needs.{needs}
 use Rattle.job.proofs.header.read_ends.Statement.{statement}
 use Rattle.job.proofs.header.read_ends.Tie as tie
-use Rattle.job.proofs.header.read_ends.Reads as reads
-use Rattle.job.proofs.header.read_ends.Lts as lts
-use Rattle.job.proofs.header.read_rounds.Reads as read-rounds-reads
-use Rattle.leb128.proofs.read_job_number.Reads as read-job-number-reads
 
--- src/header.rt:56:45
 read-job-number-requires : tie.Need-read-job-number-requires
 read-job-number-requires c κs = search needs
 
--- src/header.rt:56:27
 enum-known-start : tie.Need-enum-known-start
 enum-known-start c = search needs
 
--- src/header.rt:57:9
 enum-told : tie.Need-enum-told
 enum-told c = search needs
 
--- src/header.rt:57:9
 returns : tie.Need-returns
 unfolding ends
 returns c = follows-none _ _ _ (c .before .before .read-job-number .ensures) _ (c .enum-told .given .1)
 
--- src/header.rt:59:46
 read-job-number-requires-2 : tie.Need-read-job-number-requires-2
 read-job-number-requires-2 c κs = search needs
 
--- src/header.rt:59:27
 enum-known-goal : tie.Need-enum-known-goal
 enum-known-goal c = search needs
 
--- src/header.rt:60:9
 enum-told-2 : tie.Need-enum-told-2
 enum-told-2 c = search needs
 
--- src/header.rt:60:9
 returns-2 : tie.Need-returns-2
 unfolding ends
 returns-2 c = follows _ _ _ (c .before .before .before .before .before .before .read-job-number .ensures) _ _ _ (c .before .before .before .before .start .given .1) (follows-none _ _ _ (c .before .before .read-job-number2 .ensures) _ (c .enum-told2 .given .1))
 
--- src/header.rt:62:41
 read-job-number-requires-3 : tie.Need-read-job-number-requires-3
 read-job-number-requires-3 c κs = search needs
 
--- src/header.rt:62:27
 enum-known-budget : tie.Need-enum-known-budget
 enum-known-budget c = search needs
 
--- src/header.rt:63:9
 enum-told-3 : tie.Need-enum-told-3
 enum-told-3 c = search needs
 
--- src/header.rt:63:9
 returns-3 : tie.Need-returns-3
 unfolding ends
 returns-3 c = follows _ _ _ (c .before .before .before .before .before .before .before .before .before .before .read-job-number .ensures) _ _ _ (c .before .before .before .before .before .before .before .before .start .given .1) (follows _ _ _ (c .before .before .before .before .before .before .read-job-number2 .ensures) _ _ _ (c .before .before .before .before .goal .given .1) (follows-none _ _ _ (c .before .before .read-job-number3 .ensures) _ (c .enum-told3 .given .1)))
 
--- src/header.rt:65:5
 read-rounds-requires : tie.Need-read-rounds-requires
 read-rounds-requires c κs = search needs
 
--- src/header.rt:53:1
 returns-4 : tie.Need-returns-4
 unfolding ends
 returns-4 c = follows _ _ _ (c .before .before .before .before .before .before .before .before .before .before .before .before .read-job-number .ensures) _ _ _ (c .before .before .before .before .before .before .before .before .before .before .start .given .1) (follows _ _ _ (c .before .before .before .before .before .before .before .before .read-job-number2 .ensures) _ _ _ (c .before .before .before .before .before .before .goal .given .1) (follows _ _ _ (c .before .before .before .before .read-job-number3 .ensures) _ _ _ (c .before .before .budget .given .1) (c .read-rounds .ensures)))

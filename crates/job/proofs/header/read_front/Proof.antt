@@ -9,47 +9,34 @@ use Rattle.job.proofs.Following.{follows, follows-none, holds, fails}
 use borrow.Author.Needs.{needs}
 use Rattle.job.proofs.header.read_front.Statement.{statement}
 use Rattle.job.proofs.header.read_front.Tie as tie
-use Rattle.job.proofs.header.read_front.Reads as reads
-use Rattle.job.proofs.header.read_front.Lts as lts
-use Rattle.job.proofs.header.read_ends.Reads as read-ends-reads
-use Rattle.leb128.proofs.read_job_number.Reads as read-job-number-reads
 
--- src/header.rt:72:41
 read-job-number-requires : tie.Need-read-job-number-requires
 read-job-number-requires c κs = search needs
 
--- src/header.rt:72:27
 enum-known-size : tie.Need-enum-known-size
 enum-known-size c = search needs
 
--- src/header.rt:73:9
 enum-told : tie.Need-enum-told
 enum-told c = search needs
 
--- src/header.rt:73:9
 returns : tie.Need-returns
 unfolding front
 returns c = follows-none _ _ _ (c .before .before .read-job-number .ensures) _ (c .enum-told .given .1)
 
--- src/header.rt:75:22
 cast-end : tie.Need-cast-end
 cast-end c = search needs
 
--- src/header.rt:75:15
 add-end : tie.Need-add-end
 unfolding jobGroups
 add-end c = record { fits = omega (arith, value-within _ _ _ _ _ (sym (c .before .before .before .read-job-number .ensures) ∙ c .before .size .given .1) .few) }
 
--- src/header.rt:77:9
 returns-2 : tie.Need-returns-2
 unfolding front
 returns-2 c = follows _ _ _ (c .before .before .before .before .read-job-number .ensures) _ _ _ (c .before .before .size .given .1) (holds _ _ _ (lt-ltb _ _ (c .if1 .taken)))
 
--- src/header.rt:79:5
 read-ends-requires : tie.Need-read-ends-requires
 read-ends-requires c κs = search needs
 
--- src/header.rt:69:1
 returns-3 : tie.Need-returns-3
 unfolding front
 returns-3 c = follows _ _ _ (c .before .before .before .before .before .read-job-number .ensures) _ _ _ (c .before .before .before .size .given .1) (fails _ _ _ _ (le-ltb _ _ (c .before .if1 .left)) (c .read-ends .ensures))

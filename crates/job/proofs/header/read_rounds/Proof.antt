@@ -6,81 +6,60 @@ use Rattle.job.proofs.Following.{follows, follows-none, passes, passes-
 use borrow.Author.Needs.{needs}
 use Rattle.job.proofs.header.read_rounds.Statement.{statement}
 use Rattle.job.proofs.header.read_rounds.Tie as tie
-use Rattle.job.proofs.header.read_rounds.Reads as reads
-use Rattle.job.proofs.header.read_rounds.Lts as lts
-use Rattle.job.proofs.numbers.past.Reads as past-reads
-use Rattle.leb128.proofs.read_job_number.Reads as read-job-number-reads
 
--- src/header.rt:24:46
 read-job-number-requires : tie.Need-read-job-number-requires
 read-job-number-requires c κs = search needs
 
--- src/header.rt:24:27
 enum-known-rounds : tie.Need-enum-known-rounds
 enum-known-rounds c = search needs
 
--- src/header.rt:25:9
 enum-told : tie.Need-enum-told
 enum-told c = search needs
 
--- src/header.rt:25:9
 returns : tie.Need-returns
 unfolding rounds
 returns c = follows-none _ _ _ (c .before .before .read-job-number .ensures) _ (c .enum-told .given .1)
 
--- src/header.rt:28:9
 returns-2 : tie.Need-returns-2
 unfolding rounds
 returns-2 c = follows _ _ _ (c .before .before .before .before .read-job-number .ensures) _ _ _ (c .before .before .rounds .given .1) (holds _ _ _ (lt-ltb _ _ (c .if1 .taken)))
 
--- src/header.rt:30:72
 cast-past : tie.Need-cast-past
 cast-past c = search needs
 
--- src/header.rt:30:68
 mul-past : tie.Need-mul-past
 mul-past c = search needs
 
--- src/header.rt:30:40
 past-requires : tie.Need-past-requires
 past-requires c κs = search needs
 
--- src/header.rt:30:27
 enum-known-guides-at : tie.Need-enum-known-guides-at
 enum-known-guides-at c = search needs
 
--- src/header.rt:31:9
 enum-told-2 : tie.Need-enum-told-2
 enum-told-2 c = search needs
 
--- src/header.rt:31:9
 returns-3 : tie.Need-returns-3
 unfolding rounds
 returns-3 c = follows _ _ _ (c .before .before .before .before .before .before .before .read-job-number .ensures) _ _ _ (c .before .before .before .before .before .rounds .given .1) (fails _ _ _ _ (le-ltb _ _ (c .before .before .before .if1 .left)) (passes-none _ _ _ (c .before .before .past .ensures) (c .enum-told2 .given .1)))
 
--- src/header.rt:33:45
 read-job-number-requires-2 : tie.Need-read-job-number-requires-2
 read-job-number-requires-2 c κs = search needs
 
--- src/header.rt:33:27
 enum-known-guides : tie.Need-enum-known-guides
 enum-known-guides c = search needs
 
--- src/header.rt:34:9
 enum-told-3 : tie.Need-enum-told-3
 enum-told-3 c = search needs
 
--- src/header.rt:34:9
 returns-4 : tie.Need-returns-4
 unfolding rounds
 returns-4 c = follows _ _ _ (c .before .before .before .before .before .before .before .before .before .before .before .read-job-number .ensures) _ _ _ (c .before .before .before .before .before .before .before .before .before .rounds .given .1) (fails _ _ _ _ (le-ltb _ _ (c .before .before .before .before .before .before .before .if1 .left)) (passes _ _ _ (c .before .before .before .before .before .before .past .ensures) _ _ (c .before .before .before .before .guides-at .given .1) (follows-none _ _ _ (c .before .before .read-job-number2 .ensures) _ (c .enum-told3 .given .1))))
 
--- src/header.rt:37:9
 returns-5 : tie.Need-returns-5
 unfolding rounds
 returns-5 c = follows _ _ _ (c .before .before .before .before .before .before .before .before .before .before .before .before .before .read-job-number .ensures) _ _ _ (c .before .before .before .before .before .before .before .before .before .before .before .rounds .given .1) (fails _ _ _ _ (le-ltb _ _ (c .before .before .before .before .before .before .before .before .before .if1 .left)) (passes _ _ _ (c .before .before .before .before .before .before .before .before .past .ensures) _ _ (c .before .before .before .before .before .before .guides-at .given .1) (follows _ _ _ (c .before .before .before .before .read-job-number2 .ensures) _ _ _ (c .before .before .guides .given .1) (holds _ _ _ (lt-ltb _ _ (c .if2 .taken))))))
 
--- src/header.rt:13:1
 returns-6 : tie.Need-returns-6
 unfolding rounds
 returns-6 c = follows _ _ _ (c .before .before .before .before .before .before .before .before .before .before .before .before .before .read-job-number .ensures) _ _ _ (c .before .before .before .before .before .before .before .before .before .before .before .rounds .given .1) (fails _ _ _ _ (le-ltb _ _ (c .before .before .before .before .before .before .before .before .before .if1 .left)) (passes _ _ _ (c .before .before .before .before .before .before .before .before .past .ensures) _ _ (c .before .before .before .before .before .before .guides-at .given .1) (follows _ _ _ (c .before .before .before .before .read-job-number2 .ensures) _ _ _ (c .before .before .guides .given .1) (fails _ _ _ _ (le-ltb _ _ (c .if2 .left)) refl))))

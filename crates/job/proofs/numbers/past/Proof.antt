@@ -6,9 +6,6 @@ use Rattle.job.specs.Numbers.{endOf}
 use Rattle.job.proofs.Values.{end-next, end-refused, end-none}
 use Rattle.job.proofs.numbers.past.Statement.{statement}
 use Rattle.job.proofs.numbers.past.Tie as tie
-use Rattle.job.proofs.numbers.past.Reads as reads
-use Rattle.job.proofs.numbers.past.Lts as lts
-use Rattle.leb128.proofs.read_job_number.Reads as read-job-number-reads
 
 abbrev Inv-loop : tie.InvT-loop
 Inv-loop job at count end₀ left₀ end left = endOf count job at ≡ endOf left job end
@@ -16,39 +13,30 @@ Inv-loop job at count end₀ left₀ end left = endOf count job at ≡ endOf lef
 abbrev μ-loop : tie.MeasureT-loop
 μ-loop job at count end₀ left₀ end left = left
 
--- src/numbers.rt:18:5
 loop-holds : tie.Need-loop-holds Inv-loop μ-loop
 loop-holds c = refl
 
--- src/numbers.rt:19:42
 read-job-number-requires : tie.Need-read-job-number-requires Inv-loop μ-loop
 read-job-number-requires c κs = search needs
 
--- src/numbers.rt:19:34
 enum-known-next : tie.Need-enum-known-next Inv-loop μ-loop
 enum-known-next c = search needs
 
--- src/numbers.rt:20:13
 enum-told : tie.Need-enum-told Inv-loop μ-loop
 enum-told c = search needs
 
--- src/numbers.rt:20:13
 returns : tie.Need-returns Inv-loop μ-loop
 returns c = end-refused _ _ _ _ _ (c .before .before .before .loop-test .taken) (c .before .before .before .before .loop .inv) (sym (c .before .before .read-job-number .ensures) ∙ c .enum-told .given .1)
 
--- src/numbers.rt:23:9
 sub-left : tie.Need-sub-left Inv-loop μ-loop
 sub-left c = omega arith
 
--- src/numbers.rt:18:5
 loop-less : tie.Need-loop-less Inv-loop μ-loop
 loop-less c = omega arith
 
--- src/numbers.rt:18:5
 loop-again : tie.Need-loop-again Inv-loop μ-loop
 loop-again c = end-next _ _ _ _ _ _ (c .before .before .before .before .loop-test .taken) (c .before .before .before .before .before .loop .inv) (sym (c .before .before .before .read-job-number .ensures) ∙ c .before .next .given .1)
 
--- src/numbers.rt:13:1
 returns-2 : tie.Need-returns-2 Inv-loop μ-loop
 returns-2 c = end-none _ _ _ _ (omega (arith, c .loop-test)) (c .before .loop .inv)
 

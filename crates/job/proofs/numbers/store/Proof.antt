@@ -6,9 +6,6 @@ use Rattle.job.specs.Numbers.{values}
 use Rattle.job.proofs.Values.{Storing, storing-none, storing-next, storing-all}
 use Rattle.job.proofs.numbers.store.Statement.{statement}
 use Rattle.job.proofs.numbers.store.Tie as tie
-use Rattle.job.proofs.numbers.store.Reads as reads
-use Rattle.job.proofs.numbers.store.Lts as lts
-use Rattle.job.proofs.numbers.store_one.Reads as store-one-reads
 
 abbrev Inv-loop : tie.InvT-loop
 Inv-loop job at count into₀ next₀ i₀ into next i = Storing job count into₀ (sets into₀ 0 (values count job at)) i next into
@@ -16,31 +13,24 @@ Inv-loop job at count into₀ next₀ i₀ into next i = Storing job count into�
 abbrev μ-loop : tie.MeasureT-loop
 μ-loop job at count into₀ next₀ i₀ into next i = count - i
 
--- src/numbers.rt:48:5
 loop-holds : tie.Need-loop-holds Inv-loop μ-loop
 loop-holds c = storing-none _ _ _ _
 
--- src/numbers.rt:49:9
 store-one-requires : tie.Need-store-one-requires Inv-loop μ-loop
 store-one-requires c κs = omega (arith, c .before .before .loop .inv .size, c .before .loop-test .taken, c .before .before .before .before .before .pre)
 
--- src/numbers.rt:50:9
 add-i : tie.Need-add-i Inv-loop μ-loop
 add-i c = omega arith
 
--- src/numbers.rt:48:5
 loop-less : tie.Need-loop-less Inv-loop μ-loop
 loop-less c = omega arith
 
--- src/numbers.rt:48:5
 loop-again : tie.Need-loop-again Inv-loop μ-loop
 loop-again c = storing-next _ _ _ _ _ _ _ _ _ (c .before .before .before .before .loop-test .taken) (c .before .before .store-one .ensures .0) (c .before .before .store-one .ensures .1) (c .before .before .before .before .before .loop .inv)
 
--- src/numbers.rt:42:1
 same-length : tie.Need-same-length Inv-loop μ-loop
 same-length c = c .before .loop .inv .size
 
--- src/numbers.rt:42:1
 returns : tie.Need-returns Inv-loop μ-loop
 returns c = storing-all _ _ _ _ _ _ _ (omega (arith, c .loop-test)) (c .before .loop .inv)
 

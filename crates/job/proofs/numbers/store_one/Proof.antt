@@ -3,39 +3,28 @@ use mathlib.Core.Path.{sym, _∙_}
 use borrow.Author.Needs.{needs}
 use Rattle.job.proofs.numbers.store_one.Statement.{statement}
 use Rattle.job.proofs.numbers.store_one.Tie as tie
-use Rattle.job.proofs.numbers.store_one.Reads as reads
-use Rattle.job.proofs.numbers.store_one.Lts as lts
-use Rattle.leb128.proofs.read_job_number.Reads as read-job-number-reads
 
--- src/numbers.rt:34:42
 read-job-number-requires : tie.Need-read-job-number-requires
 read-job-number-requires c κs = search needs
 
--- src/numbers.rt:34:27
 enum-known-value : tie.Need-enum-known-value
 enum-known-value c = search needs
 
--- src/numbers.rt:35:9
 enum-told : tie.Need-enum-told
 enum-told c = search needs
 
--- src/numbers.rt:35:9
 returns : tie.Need-returns
 returns c = let e = sym (c .before .before .read-job-number .ensures) ∙ c .enum-told .given .1 in (rw e, rw e)
 
--- src/numbers.rt:37:5
 mul-into : tie.Need-mul-into
 mul-into c = search needs
 
--- src/numbers.rt:37:5
 slice-write-into : tie.Need-slice-write-into
 slice-write-into c = search needs
 
--- src/numbers.rt:29:1
 same-length : tie.Need-same-length
 same-length c = search needs
 
--- src/numbers.rt:29:1
 returns-2 : tie.Need-returns-2
 returns-2 c =
     let e = sym (c .before .before .before .read-job-number .ensures) ∙ c .before .value .given .1 in (rw e, rw e)
