@@ -1,0 +1,99 @@
+-- What the job of a call is, by its arguments. Assumes nothing.
+use Prim.Native.Nat.{ℕ, zero, suc, _+_, _-_, _*_, _≤_, _<_}
+use native.Mathlib.Omega.{arith}
+use mathlib.Core.Path.{_≡_, refl, sym, ap, _∙_, subst}
+use mathlib.Core.List.{List, [], _∷_}
+use lib.ListN.{length, getD}
+use Rattle.graph.specs.declared.Edge.{Edge}
+use Rattle.graph.specs.Plan.{Decoded, accepted, refused, decode}
+use Rattle.graph.specs.Lists.{none, fault, edgesIn}
+use Rattle.search.specs.declared.Factors.{Factors}
+use Rattle.search.specs.Job.{Job, guides, heuristic, factors, house}
+use Rattle.search.specs.Call.{Call, inForce, pairs, tables, faultIn, faultOf, jobIn, jobFrom, jobOf}
+
+-- whatever the plan is
+module _ (c : Call) where
+  by-start : (d : Decoded) → jobFrom c d .start ≡ c .start
+  unfolding jobFrom jobIn
+  by-start (accepted v es) = refl
+  by-start (refused n p) = refl
+
+  pub job-start : jobOf c .start ≡ c .start
+  unfolding jobOf
+  job-start = by-start (decode (c .bytes))
+
+  by-goal : (d : Decoded) → jobFrom c d .goal ≡ c .goal
+  unfolding jobFrom jobIn
+  by-goal (accepted v es) = refl
+  by-goal (refused n p) = refl
+
+  pub job-goal : jobOf c .goal ≡ c .goal
+  unfolding jobOf
+  job-goal = by-goal (decode (c .bytes))
+
+  by-schedule : (d : Decoded) → jobFrom c d .schedule ≡ pairs (inForce house (c .schedule))
+  unfolding jobFrom jobIn
+  by-schedule (accepted v es) = refl
+  by-schedule (refused n p) = refl
+
+  pub job-schedule : jobOf c .schedule ≡ pairs (inForce house (c .schedule))
+  unfolding jobOf
+  job-schedule = by-schedule (decode (c .bytes))
+
+  by-heuristics : (d : Decoded) → jobFrom c d .heuristics ≡ c .anchor ∷ tables (jobFrom c d .size) (c .count) (c .sheets)
+  unfolding jobFrom jobIn
+  by-heuristics (accepted v es) = refl
+  by-heuristics (refused n p) = refl
+
+  pub job-heuristics : jobOf c .heuristics ≡ c .anchor ∷ tables (jobOf c .size) (c .count) (c .sheets)
+  unfolding jobOf
+  job-heuristics = by-heuristics (decode (c .bytes))
+
+  pub job-anchor : heuristic (jobOf c) 0 ≡ c .anchor
+  unfolding heuristic
+  job-anchor = ap (λ (l : List (List ℕ)). getD l 0 []) job-heuristics
+
+  count-tables : (v n : ℕ) (l : List ℕ) → length (tables v n l) ≡ n
+  unfolding tables
+  count-tables v zero l = refl
+  count-tables v (suc n) l = ap suc (count-tables v n _)
+
+  pub job-guides : guides (jobOf c) ≡ c .count
+  unfolding guides
+  job-guides =
+      let a : length (jobOf c .heuristics) ≡ suc (c .count) = ap length job-heuristics ∙ ap suc (count-tables (jobOf c .size) (c .count) (c .sheets)) in
+      omega arith
+
+  pub job-factors : (r : ℕ) → factors (jobOf c) r ≡ getD (pairs (inForce house (c .schedule))) r (record { w1 = 0; w2 = 0 })
+  unfolding factors
+  job-factors r = ap (λ (l : List Factors). getD l r (record { w1 = 0; w2 = 0 })) job-schedule
+
+-- ---- of a call that is not refused
+
+-- its plan is accepted, and the rows of the call pass
+pub record Accepted (c : Call) : Type 0 where
+  pub v : ℕ
+  pub es : List Edge
+  pub plan : decode (c .bytes) ≡ accepted v es
+  pub rows : faultIn c (accepted v es) ≡ none
+
+fault≢none : {n p : ℕ} → fault n p ≡ none → ⊥
+fault≢none h = let z : _≡_ {A = ℕ} 0 1 = cc in omega arith
+
+accepted-by : (c : Call) (d : Decoded) → decode (c .bytes) ≡ d → faultIn c d ≡ none → Accepted c
+unfolding faultIn
+accepted-by c (accepted v es) e h = record { v = v; es = es; plan = e; rows = h }
+accepted-by c (refused n p) e h = absurd (fault≢none h)
+
+pub accepts : (c : Call) → faultOf c ≡ none → Accepted c
+unfolding faultOf
+accepts c h = accepted-by c (decode (c .bytes)) refl h
+
+module _ (c : Call) (a : Accepted c) where
+  pub job-size : jobOf c .size ≡ a .v
+  unfolding jobOf jobFrom jobIn
+  job-size = rw (a .plan)
+
+  pub job-edges : jobOf c .edges ≡ a .es
+  unfolding jobOf jobFrom jobIn
+  job-edges = rw (a .plan)

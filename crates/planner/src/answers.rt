@@ -1,0 +1,57 @@
+// The answer to a planner call: refused, or the search begun, run and handed over.
+ghost use mathlib.Core.Path.{_≡_};
+ghost use Rattle.planner.specs.Planning.{refusalOf, Admission, Answers};
+use crate::Query;
+use crate::begin;
+use crate::finish;
+use crate::turns;
+use admission::Verdict;
+use graph::Header;
+use graph::check;
+use search::Answer;
+use workspace::Size;
+
+// The answer to a call that is refused; number 0 stands for none.
+pub fn refused(verdict: Verdict) -> Answer
+    ensures { λ r. ⌜ r ≡ refusalOf verdict ⌝ }
+{
+    match verdict {
+        Verdict::Admitted(_, _) => Answer::Refused(0, 0),
+        Verdict::Refused(n, p) => Answer::Refused(n, p),
+    }
+}
+
+// The answer to a call that is not refused: the search begins, makes its turns, and is handed over.
+pub fn answer(
+    bytes: &[u8],
+    anchor: &[u32],
+    guides: &[u32],
+    schedule: &[u32],
+    budget: u32,
+    z: Size,
+    q: Query,
+    route: &mut [u32],
+    log: &mut [u32],
+    work: &mut [u32],
+) -> Answer
+    requires { ⌜ Admission z q (now bytes) (now anchor) (now guides) (now schedule) (now route) (now log) (now work) ⌝ }
+    ensures { λ r. ⌜ Answers z q (now (bytes .entry)) (now (anchor .entry)) (now (guides .entry)) (now (schedule .entry)) budget (now (route .entry)) (now (log .entry)) (now (work .entry)) r (now (route .exit)) (now (log .exit)) (now (work .exit)) ⌝ }
+{
+    let Header::Counts(_, _, at) = check::header(bytes) else {
+        return Answer::Refused(0, 0);
+    };
+    let first = begin::begin(bytes, work, route, anchor, schedule, z, q, at);
+    let last = turns::run(
+        work,
+        route,
+        log,
+        anchor,
+        guides,
+        schedule,
+        z,
+        q,
+        budget,
+        first,
+    );
+    finish::finish(route, schedule, z, last)
+}
