@@ -7,7 +7,6 @@ ghost use Rattle.job.specs.Printed.{callText};
 ghost use Rattle.bench_text.specs.Shown.{Texts};
 ghost use Rattle.bench_text.specs.Steps.{Stored};
 use crate::ending;
-use crate::planner;
 use job::Front;
 use job::numbers;
 

@@ -1,7 +1,6 @@
 // Job bytes to printed text, in a lent buffer.
 mod asked;
 mod ending;
-mod planner;
 
 ghost use Rattle.job.specs.Printed.{benchText};
 ghost use Rattle.bench_text.specs.Shown.{Texts};
