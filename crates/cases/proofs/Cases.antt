@@ -13,6 +13,7 @@ use Rattle.search.specs.Turn.{key, offered, better, leastFrom, least, stepOne, 
 use Rattle.search.specs.Rounds.{firstTurn, nextTurn, turned, ended, inHand, step, choice, turn, trace, traced, improves, costOr, reopened, endRound, onFinished, settle, settled, begin, onDue, advance, run, moments, search}
 use Rattle.search.specs.Call.{inForce, outOfRange, rising, pairs, row, first, endsRow, tablesRow, scheduleRow, memoryRow, goalRow, edgesRow, faultIn, faultOf, tables, jobIn, jobFrom, jobOf}
 use Rattle.search.specs.Outcome.{bound, summary, cutShort, answerAt, answerOf, figures, routeWords, routeAfter, logWord, logAfter, edgesBelow, firstEdges, markWord, vertexWords, workWords, outcome, answerIn, answer, memoryIn, memoryAfter}
+use Rattle.job.proofs.JobA.{prints-A}
 use Rattle.cases.specs.Cases.{Cases}
 use Rattle.cases.specs.Apart.{Apart}
 use Rattle.cases.proofs.Ends.{plan-refused}
@@ -26,6 +27,7 @@ computed = (
     job-A = record { says = refl; leaves = refl };
     job-A-at-2 = record { says = refl; leaves = refl };
     job-A-at-1 = record { says = refl; leaves = refl };
+    job-A-prints = prints-A;
     two-vertices = two-vertices;
     start-is-goal = start-is-goal;
     no-bytes = plan-refused _ _ _ refl;

@@ -11,6 +11,7 @@ use Rattle.search.specs.Job.{Job, factors, routeEnd, atFirst}
 use Rattle.search.specs.Call.{Memory, Call, jobOf}
 use Rattle.search.specs.Admitted.{Schedule, Admitted}
 use Rattle.search.specs.Outcome.{Figures, route, noRoute, unfinished, refused, figures, workWords, answer, memoryAfter}
+use Rattle.job.specs.JobA.{PrintsA}
 
 -- ---- what a call hands over
 
@@ -157,6 +158,8 @@ pub record Cases : Type 0 where
         log = 65536 ∷ old ∷ old ∷ old ∷ old ∷ [];
         work = workA (0 ∷ 0 ∷ unset ∷ 1 ∷ []) (1 ∷ unset ∷ 0 ∷ 4 ∷ []) (4 ∷ unset ∷ 0 ∷ 4 ∷ []) (unset ∷ unset ∷ unset ∷ 0 ∷ []);
       })
+  -- the same three from job bytes, as the bench program prints them
+  pub job-A-prints : PrintsA
   -- (p) `02 00`, 0 to 1, zero anchor table, no guides, allowance 1 or more: no route, 1 turn
   pub two-vertices :
       (ws : List ℕ) → Schedule ws → (budget : ℕ) → 1 ≤ budget → (m : Memory) → Enough 2 0 m →

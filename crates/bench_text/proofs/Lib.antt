@@ -1,0 +1,3 @@
+-- The laws behind the proofs of this crate.
+pub mod Lines
+pub mod Calls

@@ -1,0 +1,50 @@
+-- `put_call` meets its contract: the call, then its text. Assumes nothing.
+use Rattle.job.specs.Asked.{zeros, callWith}
+use Rattle.bench_text.proofs.Calls.{handed-text}
+use borrow.Author.Needs.{needs}
+use Rattle.bench_text.proofs.asked.put_call.Statement.{statement}
+use Rattle.bench_text.proofs.asked.put_call.Tie as tie
+
+slice-aggregate-plan : tie.Need-slice-aggregate-plan
+slice-aggregate-plan c = search needs
+
+slice-aggregate-plan-2 : tie.Need-slice-aggregate-plan-2
+slice-aggregate-plan-2 c = search needs
+
+slice-aggregate-plan-3 : tie.Need-slice-aggregate-plan-3
+slice-aggregate-plan-3 c = search needs
+
+plan-requires : tie.Need-plan-requires
+plan-requires c κs = search needs
+
+slice-aggregate-put-answer : tie.Need-slice-aggregate-put-answer
+slice-aggregate-put-answer c = search needs
+
+slice-aggregate-put-answer-2 : tie.Need-slice-aggregate-put-answer-2
+slice-aggregate-put-answer-2 c = search needs
+
+put-answer-requires : tie.Need-put-answer-requires
+put-answer-requires c κs = search needs
+
+same-length : tie.Need-same-length
+same-length c = search needs
+
+returns : tie.Need-returns
+unfolding callWith zeros
+returns c =
+    let h = c .before .before .before .before .before .before .before .before .before .plan .ensures in
+    handed-text _ _ _ _ (h .answers) (h .route-is) (h .log-is) (c .before .before .put-answer .ensures)
+
+pub put-call-spec : {M : Type 1} → statement M
+put-call-spec =
+    tie.close
+    (tie.spec
+    slice-aggregate-plan
+    slice-aggregate-plan-2
+    slice-aggregate-plan-3
+    plan-requires
+    slice-aggregate-put-answer
+    slice-aggregate-put-answer-2
+    put-answer-requires
+    same-length
+    returns)

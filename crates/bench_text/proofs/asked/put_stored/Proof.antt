@@ -1,0 +1,59 @@
+-- `put_stored` meets its contract: the tables are taken apart, and the call is the job's. Assumes nothing.
+use mathlib.Core.Path.{sym}
+use lib.Seq.{length-take-le}
+use Rattle.job.proofs.Accepted.{accepted-ready}
+use Rattle.bench_text.proofs.Calls.{first-table, call-is}
+use borrow.Author.Needs.{needs}
+use Rattle.bench_text.proofs.asked.put_stored.Statement.{statement}
+use Rattle.bench_text.proofs.asked.put_stored.Tie as tie
+
+slice-aggregate-anchor : tie.Need-slice-aggregate-anchor
+slice-aggregate-anchor c =
+    let a = c .before .before .before .before .before in sym (length-take-le _ _ (first-table (a .args .job .now) (a .args .front) _ _ _ (a .pre)))
+
+mul-sheets : tie.Need-mul-sheets
+mul-sheets c = search needs
+
+sub-sheets : tie.Need-sub-sheets
+sub-sheets c = let a = c .before .before .before .before .before in first-table (a .args .job .now) (a .args .front) _ _ _ (a .pre)
+
+part-sheets-start : tie.Need-part-sheets-start
+part-sheets-start c = let a = c .before .before .before .before .before in first-table (a .args .job .now) (a .args .front) _ _ _ (a .pre)
+
+part-sheets-end : tie.Need-part-sheets-end
+part-sheets-end c = search needs
+
+sub-put-call : tie.Need-sub-put-call
+sub-put-call c = let a = c .before .before .before .before .before .before .before in accepted-ready (a .args .job .now) (a .args .front) (a .args .vertices) (a .pre .accepted) .fits .plan
+
+part-put-call-start : tie.Need-part-put-call-start
+part-put-call-start c = let a = c .before .before .before .before .before .before .before in accepted-ready (a .args .job .now) (a .args .front) (a .args .vertices) (a .pre .accepted) .fits .plan
+
+part-put-call-end : tie.Need-part-put-call-end
+part-put-call-end c = let a = c .before .before .before .before .before .before .before in accepted-ready (a .args .job .now) (a .args .front) (a .args .vertices) (a .pre .accepted) .fits .end
+
+put-call-requires : tie.Need-put-call-requires
+put-call-requires c κs = search needs
+
+same-length : tie.Need-same-length
+same-length c = search needs
+
+returns : tie.Need-returns
+returns c =
+    let a = c .before .before .before .before .before .before .before .before .before .before .before in rw (call-is (a .args .job .now) (a .args .front) (a .args .vertices) (a .args .schedule .now) (a .args .tables .now) (a .pre)) at (c .before .before .put-call .ensures)
+
+pub put-stored-spec : {M : Type 1} → statement M
+put-stored-spec =
+    tie.close
+    (tie.spec
+    slice-aggregate-anchor
+    mul-sheets
+    sub-sheets
+    part-sheets-start
+    part-sheets-end
+    sub-put-call
+    part-put-call-start
+    part-put-call-end
+    put-call-requires
+    same-length
+    returns)

@@ -1,0 +1,49 @@
+-- `bench_text` meets its contract: the job is read, and asked or refused. Assumes nothing.
+use mathlib.Core.Path.{sym, _∙_}
+use Rattle.job.specs.Printed.{textOf, benchText}
+use borrow.Author.Needs.{needs}
+use Rattle.bench_text.proofs.bench_text.Statement.{statement}
+use Rattle.bench_text.proofs.bench_text.Tie as tie
+
+read-requires : tie.Need-read-requires
+read-requires c κs = search needs
+
+enum-known-front : tie.Need-enum-known-front
+enum-known-front c = search needs
+
+put-job-requires : tie.Need-put-job-requires
+put-job-requires c κs = sym (c .before .before .before .before .read .ensures) ∙ c .before .before .front .given .1
+
+enum-known-n : tie.Need-enum-known-n
+enum-known-n c = search needs
+
+put-refused-requires : tie.Need-put-refused-requires
+put-refused-requires c κs = search needs
+
+same-length : tie.Need-same-length
+same-length c = search needs
+
+returns : tie.Need-returns
+unfolding benchText textOf
+returns c = rw (sym (c .before .before .before .before .before .before .before .read .ensures) ∙ c .before .before .before .before .before .front .given .1) (c .before .before .put-job .ensures)
+
+same-length-2 : tie.Need-same-length-2
+same-length-2 c = search needs
+
+returns-2 : tie.Need-returns-2
+unfolding benchText textOf
+returns-2 c = rw (sym (c .before .before .before .before .before .before .before .read .ensures) ∙ c .before .before .before .before .before .n .given .1) (c .before .before .put-refused .ensures)
+
+pub bench-text-spec : {M : Type 1} → statement M
+bench-text-spec =
+    tie.close
+    (tie.spec
+    read-requires
+    enum-known-front
+    put-job-requires
+    enum-known-n
+    put-refused-requires
+    same-length
+    returns
+    same-length-2
+    returns-2)

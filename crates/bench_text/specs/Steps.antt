@@ -1,0 +1,14 @@
+-- What the private functions of this crate ask: for their contracts alone, nothing that a reader must believe.
+use Prim.Native.Nat.{ℕ}
+use mathlib.Core.Path.{_≡_}
+use mathlib.Core.List.{List}
+use Rattle.job.specs.declared.Front.{Front}
+use Rattle.job.specs.declared.JobRead.the-variants.{Accepted}
+use Rattle.job.specs.Reading.{jobRead}
+use Rattle.job.specs.Asked.{scheduleOf, tablesOf}
+
+-- an accepted job, with its schedule and its tables
+pub record Stored (s : List ℕ) (f : Front) (v : ℕ) (factors numbers : List ℕ) : Type 0 where
+  pub accepted : jobRead s ≡ Accepted f v
+  pub schedule : factors ≡ scheduleOf s f
+  pub tables : numbers ≡ tablesOf s f v

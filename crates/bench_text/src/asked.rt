@@ -1,0 +1,94 @@
+// The call that an accepted job asks, and its text.
+ghost use mathlib.Core.Path.{_≡_};
+ghost use Rattle.job.specs.declared.JobRead.the-variants.{Accepted};
+ghost use Rattle.job.specs.Reading.{jobRead};
+ghost use Rattle.job.specs.Asked.{callWith, callOf};
+ghost use Rattle.job.specs.Printed.{callText};
+ghost use Rattle.bench_text.specs.Shown.{Texts};
+ghost use Rattle.bench_text.specs.Steps.{Stored};
+use crate::ending;
+use job::Front;
+use job::numbers;
+
+// Words of lent memory: a schedule of 16 rounds, an anchor table and 8 guide sheets of 256 numbers; route
+// memory, a log, and work memory for 256 vertices and 2,048 edges.
+const FACTORS: usize = 32;
+
+const TABLES: usize = 2304;
+
+const ROUTE: usize = 256;
+
+const LOG: usize = 8192;
+
+const WORK: usize = 5377;
+
+// The planner call, and what it hands over printed.
+fn put_call(
+    out: &mut [u8],
+    plan: &[u8],
+    front: Front,
+    anchor: &[u32],
+    sheets: &[u32],
+    schedule: &[u32],
+) -> usize
+    ensures { λ r. ⌜ Texts (callText (callWith (now (plan .entry)) front (now (anchor .entry)) (now (sheets .entry)) (now (schedule .entry)))) (now (out .entry)) r (now (out .exit)) ⌝ }
+{
+    let mut route = [0u32; ROUTE];
+    let mut log = [0u32; LOG];
+    let mut work = [0u32; WORK];
+    let answer = planner::plan(
+        plan,
+        front.start,
+        front.goal,
+        anchor,
+        sheets,
+        front.guides,
+        schedule,
+        front.budget,
+        &mut route,
+        &mut log,
+        &mut work,
+    );
+    ending::put_answer(out, answer, &route, &log)
+}
+
+// An accepted job, its factors and tables stored: the call is made.
+fn put_stored(
+    out: &mut [u8],
+    job: &[u8],
+    front: Front,
+    vertices: u32,
+    schedule: &[u32],
+    tables: &[u32],
+) -> usize
+    requires { ⌜ Stored (now job) front vertices (now schedule) (now tables) ⌝ }
+    ensures { λ r. ⌜ Texts (callText (callOf (now (job .entry)) front vertices)) (now (out .entry)) r (now (out .exit)) ⌝ }
+{
+    let plan = front.plan;
+    let end = front.end;
+    let each = vertices as usize;
+    let anchor = &tables[..each];
+    let sheets = &tables[each..];
+    put_call(out, &job[plan..end], front, anchor, sheets, schedule)
+}
+
+// An accepted job: its factors and tables are stored, and what follows.
+pub fn put_job(out: &mut [u8], job: &[u8], front: Front, vertices: u32) -> usize
+    requires { ⌜ jobRead (now job) ≡ Accepted front vertices ⌝ }
+    ensures { λ r. ⌜ Texts (callText (callOf (now (job .entry)) front vertices)) (now (out .entry)) r (now (out .exit)) ⌝ }
+{
+    let factors = 2 * front.rounds as usize;
+    let all = (1 + front.guides as usize) * vertices as usize;
+    let mut schedule = [0u32; FACTORS];
+    let mut tables = [0u32; TABLES];
+    numbers::store(job, front.factors, factors, &mut schedule);
+    numbers::store(job, front.tables, all, &mut tables);
+    put_stored(
+        out,
+        job,
+        front,
+        vertices,
+        &schedule[..factors],
+        &tables[..all],
+    )
+}

@@ -1,0 +1,160 @@
+-- What is known of the front of a job that was read whole, and of a job that was accepted.
+-- Assumes nothing.
+use Prim.Native.Nat.{ℕ, _+_, _*_, _≤_}
+use native.Mathlib.Omega.{arith}
+use mathlib.Core.Path.{_≡_, refl, sym, ap, _∙_}
+use mathlib.Core.Bool.{Bool, true, false, cond, _||_}
+use mathlib.Core.List.{List}
+use lib.ListN.{length}
+use lib.Dec.{ltb}
+use borrow.Author.Tests.{ltb-false}
+use Rattle.leb128.specs.Number.{read, jobGroups}
+use Rattle.graph.specs.declared.PlanRead.{PlanRead}
+use Rattle.graph.specs.declared.PlanRead.the-variants as checked
+use Rattle.graph.specs.Plan.{decode, sizes}
+use Rattle.graph.proofs.Tests.{or-left, or-right}
+use Rattle.job.specs.declared.Front.{Front}
+use Rattle.job.specs.declared.NumbersRead.{NumbersRead}
+use Rattle.job.specs.declared.NumbersRead.the-variants.{Past, Malformed}
+use Rattle.job.specs.declared.FrontRead.{FrontRead}
+use Rattle.job.specs.declared.FrontRead.the-variants.{Whole, Broken}
+use Rattle.job.specs.declared.JobRead.{JobRead}
+use Rattle.job.specs.declared.JobRead.the-variants.{Accepted, Refused}
+use Rattle.job.specs.Numbers.{endOf, values}
+use Rattle.job.specs.Reading.{maxBytes, maxRounds, maxGuides, maxVertices, maxEdges, rounds, ends, front, planOf, tableCount, afterTables, afterSizes, afterPlan, afterFront, jobRead}
+use Rattle.job.specs.Asked.{scheduleOf, tablesOf}
+use Rattle.job.proofs.Values.{length-values}
+use Rattle.job.proofs.Following.{whole-following, whole-past, whole-cond}
+
+-- ---- the front
+
+-- rounds and guides are few, and every factor is there
+pub record Rounds (s : List ℕ) (plan end : ℕ) (f : Front) : Type 0 where
+  pub at : f .plan ≡ plan
+  pub to : f .end ≡ end
+  pub rounds : f .rounds ≤ maxRounds
+  pub guides : f .guides ≤ maxGuides
+  pub schedule : length (scheduleOf s f) ≡ 2 * f .rounds
+
+module _ (s : List ℕ) (plan end : ℕ) (f : Front) where
+  whole-as :
+      (start goal budget r at g tables next : ℕ) → ltb maxRounds r ≡ false → endOf (2 * r) s at ≡ Past next → ltb maxGuides g ≡ false →
+      Whole (record { plan = plan; end = end; start = start; goal = goal; budget = budget; rounds = r; factors = at; guides = g; tables = tables }) ≡ Whole f →
+      Rounds s plan end f
+  unfolding scheduleOf
+  whole-as start goal budget r at g tables next few all less h =
+      let e : record { plan = plan; end = end; start = start; goal = goal; budget = budget; rounds = r; factors = at; guides = g; tables = tables } ≡ f = cc in
+      let er : r ≡ f .rounds = ap (λ (x : Front). x .rounds) e in
+      let eg : g ≡ f .guides = ap (λ (x : Front). x .guides) e in
+      let ea : at ≡ f .factors = ap (λ (x : Front). x .factors) e in
+      record {
+        at = sym (ap (λ (x : Front). x .plan) e);
+        to = sym (ap (λ (x : Front). x .end) e);
+        rounds = omega (arith, ltb-false maxRounds r few);
+        guides = omega (arith, ltb-false maxGuides g less);
+        schedule = rw (sym er, sym ea) (length-values s next (2 * r) at all);
+      }
+
+  rounds-whole : (start goal budget at : ℕ) → rounds s plan end start goal budget at ≡ Whole f → Rounds s plan end f
+  unfolding rounds
+  rounds-whole start goal budget at h =
+      whole-following f (read jobGroups s at) _ h
+      (λ r factors _ h₁. whole-cond f (ltb maxRounds r) _ h₁
+      (λ few h₂. whole-past f (endOf (2 * r) s factors) _ h₂
+      (λ next all h₃. whole-following f (read jobGroups s next) _ h₃
+      (λ g tables _ h₄. whole-cond f (ltb maxGuides g) _ h₄
+      (λ less h₅. whole-as start goal budget r factors g tables next few all less h₅)))))
+
+  ends-whole : ends s plan end ≡ Whole f → Rounds s plan end f
+  unfolding ends
+  ends-whole h =
+      whole-following f (read jobGroups s end) _ h
+      (λ start goalAt _ h₁. whole-following f (read jobGroups s goalAt) _ h₁
+      (λ goal budgetAt _ h₂. whole-following f (read jobGroups s budgetAt) _ h₂
+      (λ budget at _ h₃. rounds-whole start goal budget at h₃)))
+
+-- the plan is a part of the job's bytes
+pub record Fits (s : List ℕ) (f : Front) : Type 0 where
+  pub plan : f .plan ≤ f .end
+  pub end : f .end ≤ length s
+  pub rounds : f .rounds ≤ maxRounds
+  pub guides : f .guides ≤ maxGuides
+  pub schedule : length (scheduleOf s f) ≡ 2 * f .rounds
+
+pub front-fits : (s : List ℕ) (f : Front) → front s ≡ Whole f → Fits s f
+unfolding front
+front-fits s f h =
+    whole-following f (read jobGroups s 0) _ h
+    (λ size plan _ h₁. whole-cond f (ltb (length s) (plan + size)) _ h₁
+    (λ there h₂.
+    let r : Rounds s plan (plan + size) f = ends-whole s plan (plan + size) f h₂ in
+    record {
+      plan = omega arith;
+      end = omega (arith, ltb-false (length s) (plan + size) there);
+      rounds = r .rounds;
+      guides = r .guides;
+      schedule = r .schedule;
+    }))
+
+-- ---- the job
+
+-- it fits the limits, and every table is there
+pub record Ready (s : List ℕ) (f : Front) (v : ℕ) : Type 0 where
+  pub fits : Fits s f
+  pub edges : ℕ
+  pub sizes : sizes (decode (planOf s f)) ≡ checked.Sizes v edges
+  pub vertices : v ≤ maxVertices
+  pub few : edges ≤ maxEdges
+  pub tables : length (tablesOf s f v) ≡ tableCount f v
+
+module _ (s : List ℕ) (f : Front) (v : ℕ) where
+  never : {A : Type 0} (n p : ℕ) → Refused n p ≡ Accepted f v → A
+  never n p h = let z : _≡_ {A = ℕ} 0 1 = cc in absurd (omega arith)
+
+  module _ (g : Front) where
+    same-by : (w : ℕ) (b : Bool) → cond b (Refused 14 0) (Accepted g w) ≡ Accepted f v → (g ≡ f) × (w ≡ v)
+    same-by w true h = never 14 0 h
+    same-by w false h = (cc, cc)
+
+    -- the tables are there
+    tables-by : (w : ℕ) (r : NumbersRead) → afterTables s g w r ≡ Accepted f v → (g ≡ f) × (w ≡ v) × ((end : ℕ) × (r ≡ Past end))
+    unfolding afterTables
+    tables-by w (Past end) h = let e : (g ≡ f) × (w ≡ v) = same-by w (ltb end (length s)) h in (e .0, e .1, (end, refl))
+    tables-by w Malformed h = never 14 0 h
+
+    module _ (whole : front s ≡ Whole g) where
+      -- V and M are small
+      sizes-by :
+          (w m : ℕ) (b : Bool) → sizes (decode (planOf s g)) ≡ checked.Sizes w m → (ltb maxVertices w || ltb maxEdges m) ≡ b →
+          cond b (Refused 14 0) (afterTables s g w (endOf (tableCount g w) s (g .tables))) ≡ Accepted f v → Ready s f v
+      unfolding tablesOf
+      sizes-by w m true z o h = never 14 0 h
+      sizes-by w m false z o h =
+          let e = tables-by w (endOf (tableCount g w) s (g .tables)) h in
+          rw (sym (e .0), sym (e .1))
+          (record {
+            fits = front-fits s g whole;
+            edges = m;
+            sizes = z;
+            vertices = ltb-false maxVertices w (or-left (ltb maxVertices w) (ltb maxEdges m) o);
+            few = ltb-false maxEdges m (or-right (ltb maxVertices w) (ltb maxEdges m) o);
+            tables = length-values s (e .2 .0) (tableCount g w) (g .tables) (e .2 .1);
+          })
+
+      plan-by : (p : PlanRead) → sizes (decode (planOf s g)) ≡ p → afterPlan s g p ≡ Accepted f v → Ready s f v
+      unfolding afterPlan afterSizes
+      plan-by (checked.Sizes w m) z h = sizes-by w m (ltb maxVertices w || ltb maxEdges m) z refl h
+      plan-by (checked.Refused n p) z h = never n p h
+
+  front-by : (r : FrontRead) → front s ≡ r → afterFront s r ≡ Accepted f v → Ready s f v
+  unfolding afterFront
+  front-by (Whole g) e h = plan-by g e (sizes (decode (planOf s g))) refl h
+  front-by Broken e h = never 14 0 h
+
+  size-by : (b : Bool) → cond b (Refused 14 0) (afterFront s (front s)) ≡ Accepted f v → Ready s f v
+  size-by true h = never 14 0 h
+  size-by false h = front-by (front s) refl h
+
+  pub accepted-ready : jobRead s ≡ Accepted f v → Ready s f v
+  unfolding jobRead
+  accepted-ready h = size-by (ltb maxBytes (length s)) h

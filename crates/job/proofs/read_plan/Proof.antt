@@ -1,0 +1,27 @@
+-- `read_plan` meets its contract, by the plan's cases. Assumes nothing.
+use Rattle.job.specs.Reading.{afterPlan}
+use borrow.Author.Needs.{needs}
+use Rattle.job.proofs.read_plan.Statement.{statement}
+use Rattle.job.proofs.read_plan.Tie as tie
+
+enum-known-checked : tie.Need-enum-known-checked
+enum-known-checked c = search needs
+
+read-tables-requires : tie.Need-read-tables-requires
+read-tables-requires c κs = search needs
+
+enum-known-checked-2 : tie.Need-enum-known-checked-2
+enum-known-checked-2 c = search needs
+
+returns : tie.Need-returns
+unfolding afterPlan
+returns c = rw (c .before .before .checked .given .1) (c .read-tables .ensures)
+
+returns-2 : tie.Need-returns-2
+unfolding afterPlan
+returns-2 c = rw (c .before .checked2 .given .1)
+
+pub read-plan-spec : {M : Type 1} → statement M
+read-plan-spec =
+    tie.close
+    (tie.spec enum-known-checked read-tables-requires enum-known-checked-2 returns returns-2)

@@ -1,0 +1,61 @@
+-- The planner call that an accepted bench job asks, over memory of the bench program.
+use Prim.Native.Nat.{ℕ, _+_, _*_}
+use mathlib.Core.List.{List}
+use lib.ListN.{take, drop, replicate}
+use Rattle.search.specs.Call.{Memory, Call}
+use Rattle.job.specs.declared.Front.{Front}
+use Rattle.job.specs.Numbers.{values}
+use Rattle.job.specs.Reading.{maxVertices, maxEdges, planOf, tableCount}
+
+-- ---- what an accepted job holds, besides its plan
+
+-- W1, W2, W1, W2, ..
+unfoldable pub scheduleOf : List ℕ → Front → List ℕ
+scheduleOf s f = values (2 * f .rounds) s (f .factors)
+
+-- the tables one after another, v numbers each
+unfoldable pub tablesOf : List ℕ → Front → ℕ → List ℕ
+tablesOf s f v = values (tableCount f v) s (f .tables)
+
+-- the anchor table first
+unfoldable pub anchorOf : List ℕ → Front → ℕ → List ℕ
+anchorOf s f v = take v (tablesOf s f v)
+
+-- then the guide sheets
+unfoldable pub sheetsOf : List ℕ → Front → ℕ → List ℕ
+sheetsOf s f v = drop v (tablesOf s f v)
+
+-- ---- memory
+
+-- the least for 256 vertices and 2,048 edges, and a log of 8,192 words
+abbrev pub routeSize : ℕ
+routeSize = maxVertices
+
+abbrev pub logSize : ℕ
+logSize = 8192
+
+abbrev pub workSize : ℕ
+workSize = 5 * maxVertices + 1 + 2 * maxEdges
+
+unfoldable pub zeros : Memory
+zeros = record { route = replicate routeSize 0; log = replicate logSize 0; work = replicate workSize 0 }
+
+-- ---- the call
+
+-- with this plan, these tables and this schedule
+unfoldable pub callWith : List ℕ → Front → List ℕ → List ℕ → List ℕ → Call
+callWith plan f anchor sheets schedule =
+    record {
+      bytes = plan;
+      start = f .start;
+      goal = f .goal;
+      anchor = anchor;
+      sheets = sheets;
+      count = f .guides;
+      schedule = schedule;
+      budget = f .budget;
+      memory = zeros;
+    }
+
+unfoldable pub callOf : List ℕ → Front → ℕ → Call
+callOf s f v = callWith (planOf s f) f (anchorOf s f v) (sheetsOf s f v) (scheduleOf s f)

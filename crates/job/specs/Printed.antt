@@ -1,0 +1,38 @@
+-- What the bench program prints for a job's bytes.
+use Prim.Native.Nat.{ℕ}
+use mathlib.Core.List.{List, _++_}
+use lib.ListN.{take}
+use Rattle.text.specs.Text.{turnLines, routeLine, endLine, noRouteLine, unfinishedLine, refusedLine}
+use Rattle.search.specs.Call.{Call}
+use Rattle.search.specs.Outcome.{Ending, route, noRoute, unfinished, refused, Figures, figures, answer, memoryAfter}
+use Rattle.job.specs.declared.JobRead.{JobRead}
+use Rattle.job.specs.declared.JobRead.the-variants.{Accepted, Refused}
+use Rattle.job.specs.Reading.{jobRead}
+use Rattle.job.specs.Asked.{callOf}
+
+-- the turns that log memory shows
+unfoldable pub turns : Figures → List ℕ → List ℕ
+turns f log = turnLines (take (f .turns) log)
+
+-- the turn lines, then the route line and the end line, or `no route turns T` or `unfinished turns T`; a refusal is only `refused N at P`
+unfoldable pub ending : Ending → Figures → List ℕ → List ℕ → List ℕ
+ending route f kept log =
+    turns f log ++ (routeLine (take (f .length) kept) ++ endLine (f .cost) (f .rounds) (f .turns) (f .bound))
+ending noRoute f kept log = turns f log ++ noRouteLine (f .turns)
+ending unfinished f kept log = turns f log ++ unfinishedLine (f .turns)
+ending refused f kept log = refusedLine (f .number) (f .position)
+
+-- what is printed of an answer's figures, route memory and log memory
+unfoldable pub printed : Figures → List ℕ → List ℕ → List ℕ
+printed f kept log = ending (f .ending) f kept log
+
+unfoldable pub callText : Call → List ℕ
+callText c = printed (figures (answer c)) (memoryAfter c .route) (memoryAfter c .log)
+
+unfoldable pub textOf : List ℕ → JobRead → List ℕ
+textOf s (Accepted f v) = callText (callOf s f v)
+textOf s (Refused n p) = refusedLine n p
+
+-- job bytes → printed text
+unfoldable pub benchText : List ℕ → List ℕ
+benchText s = textOf s (jobRead s)
