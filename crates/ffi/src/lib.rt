@@ -5,6 +5,8 @@ ghost use Rattle.graph.specs.Plan.{decode, sizes};
 ghost use Rattle.graph.specs.Lists.{tailOf, headOf, costOf, readAnswer, listAfter};
 ghost use Rattle.graph.specs.Lists as lists;
 ghost use Rattle.planner.specs.Plan.{callOf};
+ghost use Rattle.job.specs.Printed.{benchText};
+ghost use Rattle.bench_text.specs.Shown.{Texts};
 ghost use Rattle.ffi.specs.Calls.{answerFigures, Exported};
 ghost use Rattle.ffi.specs.Figures.{readFigures, writtenFigures, planFigures, countFigures};
 use graph::PlanRead;
@@ -178,4 +180,12 @@ pub extern "C" fn secondcoop_plan(
         work,
     );
     *figures = of_answer(answer);
+}
+
+// The text that the bench program prints for a job.
+#[no_mangle]
+pub extern "C" fn secondcoop_bench_text(job: &[u8], text: &mut [u8]) -> usize
+    ensures { λ r. ⌜ Texts (benchText (now (job .entry))) (now (text .entry)) r (now (text .exit)) ⌝ }
+{
+    bench_text::bench_text(job, text)
 }
