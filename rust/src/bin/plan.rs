@@ -38,11 +38,18 @@ fn parse(text: &str) -> Result<Plan, String> {
     let (mut tails, mut heads, mut costs) = (Vec::new(), Vec::new(), Vec::new());
     for (index, line) in text.lines().enumerate() {
         let number = index + 1;
-        let words: Vec<&str> = line.split('#').next().unwrap_or("").split_whitespace().collect();
+        let words: Vec<&str> = line
+            .split('#')
+            .next()
+            .unwrap_or("")
+            .split_whitespace()
+            .collect();
         match words.first() {
             None => {}
             Some(&"places") if places.is_some() => {
-                return Err(format!("line {number}: 'places' stands there a second time"));
+                return Err(format!(
+                    "line {number}: 'places' stands there a second time"
+                ));
             }
             Some(&"places") => places = Some(numbers(&words, 1, number)?[0]),
             Some(&"lane") => {
@@ -57,7 +64,12 @@ fn parse(text: &str) -> Result<Plan, String> {
         }
     }
     let places = places.ok_or("there is no line 'places V'")?;
-    Ok(Plan { places, tails, heads, costs })
+    Ok(Plan {
+        places,
+        tails,
+        heads,
+        costs,
+    })
 }
 
 /// A refusal in words.
@@ -79,15 +91,27 @@ fn to_bytes(plan: &Plan) -> Result<String, String> {
     let [number, position, count, _] =
         ffi::write_plan(plan.places, &plan.tails, &plan.heads, &plan.costs, &mut out);
     match number {
-        0 => Ok(out[..count as usize].iter().map(|byte| format!("{byte:02X} ")).collect()),
-        2 | 3 => Err(format!("refused {number} at {position}: {}", reason(number))),
-        _ => Err(format!("refused {number} at {position}, lane number {position} from 0: {}", reason(number))),
+        0 => Ok(out[..count as usize]
+            .iter()
+            .map(|byte| format!("{byte:02X} "))
+            .collect()),
+        2 | 3 => Err(format!(
+            "refused {number} at {position}: {}",
+            reason(number)
+        )),
+        _ => Err(format!(
+            "refused {number} at {position}, lane number {position} from 0: {}",
+            reason(number)
+        )),
     }
 }
 
 fn to_text(bytes: &[u8]) -> Result<String, String> {
     let refused = |number, position| {
-        format!("refused {number} at {position}, byte number {position} from 0: {}", reason(number))
+        format!(
+            "refused {number} at {position}, byte number {position} from 0: {}",
+            reason(number)
+        )
     };
     let [number, position, _, lanes] = ffi::check_plan(bytes);
     if number != 0 {
@@ -109,7 +133,11 @@ fn to_text(bytes: &[u8]) -> Result<String, String> {
 /// Hexadecimal pairs, or nothing where a word is none.
 fn pairs(text: &str) -> Option<Vec<u8>> {
     text.split_whitespace()
-        .map(|word| (word.len() == 2).then(|| u8::from_str_radix(word, 16).ok()).flatten())
+        .map(|word| {
+            (word.len() == 2)
+                .then(|| u8::from_str_radix(word, 16).ok())
+                .flatten()
+        })
         .collect()
 }
 
