@@ -3,6 +3,7 @@
 //! under test with it.
 
 pub mod bench_text;
+pub mod clock;
 pub mod compare;
 pub mod dijkstra;
 pub mod events;

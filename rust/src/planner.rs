@@ -315,20 +315,17 @@ impl<O: Onlooker> Search<'_, O> {
     /// without the marks `without`, and its vertex; equal keys: the lowest
     /// vertex.
     fn least(&self, table: &[u32], w1: u64, without: u32) -> Option<(u64, usize)> {
-        let mut least = None;
+        // No key is so great: 10,100 · 4,294,967,295 is the most.
+        let (mut least, mut lowest) = (u64::MAX, None);
         for (vertex, (&[g, _, _, marks], &h)) in self.vertices.iter().zip(table).enumerate() {
             if marks & (OPEN | without) == OPEN {
                 let key = 100 * u64::from(g) + w1 * u64::from(h);
-                let less = |(before, _)| match self.onlooker.has(Fault::HighestVertex) {
-                    true => key <= before,
-                    false => key < before,
-                };
-                if least.is_none_or(less) {
-                    least = Some((key, vertex));
+                if key < least || key == least && self.onlooker.has(Fault::HighestVertex) {
+                    (least, lowest) = (key, Some(vertex));
                 }
             }
         }
-        least
+        Some((least, lowest?))
     }
 
     fn expand(&mut self, vertex: usize) {
