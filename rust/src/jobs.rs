@@ -757,6 +757,56 @@ pub fn damaged_jobs(seed: u64, count: usize, sink: &mut dyn FnMut(&Job, Answer))
     }
 }
 
+/// Jobs with several faults at once, in any order, and with bytes changed at
+/// random; what they get is not known from their making.
+pub fn wild_jobs(seed: u64, count: usize, sink: &mut dyn FnMut(&Job)) {
+    let mut random = Random::new(seed);
+    for _ in 0..count {
+        let shape = random.pick(&SHAPES);
+        let (plan, mut job) = random_job(&mut random, shape);
+        job.budget = random.pick(&[0, 1, 2, 5, 100, u32::MAX]);
+        for _ in 0..random.below(4) {
+            // Only call faults are laid one over another: the anchor's rows
+            // need a goal and a table of V numbers.
+            let whole = job.goal < plan.vertices && job.anchor.len() == plan.vertices as usize;
+            let most = if whole { 13 } else { 11 };
+            let number = random.range32(8, most);
+            damage_job(&mut random, &plan, &mut job, number);
+        }
+        if random.one_in(3) {
+            for _ in 0..random.range(1, 3) {
+                let at = random.index(job.bytes.len());
+                match random.below(4) {
+                    0 => job.bytes[at] ^= 1 << random.below(8),
+                    1 => job.bytes[at] = random.byte(),
+                    2 if job.bytes.len() > 1 => drop(job.bytes.remove(at)),
+                    _ => job.bytes.insert(at, random.byte()),
+                }
+            }
+        }
+        sink(&job);
+    }
+}
+
+/// Small jobs with every budget from 0 to two turns past the last end of a
+/// round.
+pub fn every_budget(seed: u64, count: usize, sink: &mut dyn FnMut(&Plan, &Job)) {
+    let mut random = Random::new(seed);
+    for _ in 0..count {
+        let (plan, mut job) = match random.below(4) {
+            0 => twisted_job(&mut random),
+            1 => detour_job(&mut random),
+            2 => steep_job(&mut random),
+            _ => random_job(&mut random, Shape::Tiny),
+        };
+        let last = ends_of_rounds(&job).into_iter().max().unwrap_or(0);
+        for budget in 0..=last + 2 {
+            job.budget = budget;
+            sink(&plan, &job);
+        }
+    }
+}
+
 /// A fault of form in a bench job's bytes: each gets refusal 14 at 0, if no
 /// earlier row of the table counts.
 pub fn damage_bench(random: &mut Random, plan: &Plan, job: &Job) -> Vec<u8> {
@@ -878,7 +928,7 @@ pub fn large_jobs(seed: u64, sink: &mut dyn FnMut(&Plan, &Job)) {
         sink(&path, &job);
     }
     // Sixteen rounds and eight guides on the largest bench plan.
-    let mut bench = generate::random_plan(&mut random, 256, 2_048);
+    let mut bench = connected(&mut random, 256);
     bench.costs.fill_with(|| random.range32(0, 99));
     for _ in 0..3 {
         let mut job = job_on(&mut random, &bench);
@@ -897,6 +947,49 @@ pub fn large_jobs(seed: u64, sink: &mut dyn FnMut(&Plan, &Job)) {
         job.log_room = 9_000;
         sink(&most, &job);
     }
+    // And all guides and rounds, with budgets around the ends of some rounds.
+    let mut most = connected(&mut random, 4_096);
+    most.costs.fill_with(|| random.range32(0, 999));
+    let mut job = job_on(&mut random, &most);
+    (job.start, job.goal) = (17, 4_000);
+    job.anchor = random_anchor(&mut random, &most, job.goal);
+    job.guide_count = 8;
+    let sheets = (0..8).map(|_| random_sheet(&mut random, &most, job.goal, &job.anchor));
+    job.guides = sheets.collect::<Vec<_>>().concat();
+    job.schedule = falling_factors(&mut random, 16, [1_000, 1_000]);
+    job.schedule[30..].fill(100);
+    job.log_room = 2 * 16 * 4_096;
+    sink(&most, &job);
+    for end in ends_of_rounds(&job).into_iter().step_by(5) {
+        for budget in [end.saturating_sub(1), end, end + 1] {
+            job.budget = budget;
+            sink(&most, &job);
+        }
+    }
+}
+
+/// A plan in which every vertex has eight edges: a walk leads from almost
+/// every vertex to almost every other.
+fn connected(random: &mut Random, vertices: u32) -> Plan {
+    let mut plan = Plan {
+        vertices,
+        tails: Vec::new(),
+        heads: Vec::new(),
+        costs: vec![0; 8 * vertices as usize],
+    };
+    for tail in 0..plan.vertices {
+        let mut heads: Vec<u32> = Vec::new();
+        while heads.len() < 8 {
+            let head = random.range32(0, plan.vertices - 1);
+            if !heads.contains(&head) {
+                heads.push(head);
+            }
+        }
+        heads.sort_unstable();
+        plan.tails.extend([tail; 8]);
+        plan.heads.extend(heads);
+    }
+    plan
 }
 
 /// Bytes for the bench program with the text that their making decides:
