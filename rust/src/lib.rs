@@ -15,3 +15,4 @@ pub mod planner;
 pub mod planners;
 pub mod random;
 pub mod reference;
+pub mod text;
