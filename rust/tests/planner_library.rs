@@ -12,8 +12,9 @@ use std::str::FromStr;
 use secondcoop_tests::bench_text;
 use secondcoop_tests::events::Events;
 use secondcoop_tests::jobs;
+use secondcoop_tests::planner::Answer;
 use secondcoop_tests::planners::{
-    Comparison, Library, SecondPlanner, KINDS, NO_ROUTE, ROUTE, UNFINISHED,
+    self, Comparison, Library, SecondPlanner, KINDS, NO_ROUTE, ROUTE, UNFINISHED,
 };
 
 const JOBS: usize = 150_000;
@@ -125,8 +126,14 @@ fn wild_jobs_are_answered_alike() {
 #[test]
 fn jobs_at_the_limits_are_planned_alike() {
     let mut comparison = Comparison::new(&Library, &SecondPlanner);
+    let mut largest = 0;
     jobs::large_jobs(seed(75), &mut |plan, job| {
         comparison.job(job, None);
+        let size = (plan.vertices, plan.edges(), job.guide_count);
+        let all_rounds = |answer| matches!(answer, Answer::Route { rounds: 16, .. });
+        if size == (4_096, 32_768, 8) && all_rounds(planners::run(&Library, job, 0).answer()) {
+            largest += 1;
+        }
         if plan.vertices as usize <= bench_text::MOST_BENCH_VERTICES {
             comparison.text(&job.bench_bytes(), None);
         }
@@ -134,6 +141,10 @@ fn jobs_at_the_limits_are_planned_alike() {
     comparison.report("jobs_at_the_limits_are_planned_alike");
     assert!(comparison.jobs >= 15 && comparison.texts >= 3);
     assert!(comparison.job_kinds[ROUTE] >= 10 && comparison.text_kinds[ROUTE] >= 2);
+    assert!(
+        largest >= 1,
+        "no job of the greatest size finished 16 rounds"
+    );
 }
 
 #[test]
