@@ -13,9 +13,9 @@ use secondcoop_tests::planners::{Library, Planner, SecondPlanner};
 use secondcoop_tests::random::Random;
 
 /// Runs of each side, alternating; the median counts.
-const RUNS: usize = 11;
+const RUNS: usize = 15;
 /// A run has as many calls as take about so many nanoseconds, one at least.
-const RUN_TIME: f64 = 30_000_000.0;
+const RUN_TIME: f64 = 50_000_000.0;
 
 /// A floor of width × height vertices, which closes round at its edges; from
 /// each vertex edges lead to its eight neighbours.
@@ -108,9 +108,20 @@ impl Lent {
     }
 }
 
-/// Nanoseconds of a call: the median of alternating runs of the library and
-/// of the second planner.
-fn times(mut call: impl FnMut(&dyn Planner)) -> [f64; 2] {
+fn median(mut list: Vec<f64>) -> f64 {
+    list.sort_by(f64::total_cmp);
+    list[list.len() / 2]
+}
+
+/// Nanoseconds of a call, and the library's time over the second planner's:
+/// medians of alternating runs.
+struct Times {
+    library: f64,
+    second: f64,
+    ratio: f64,
+}
+
+fn times(mut call: impl FnMut(&dyn Planner)) -> Times {
     let sides: [&dyn Planner; 2] = [&Library, &SecondPlanner];
     let mut time = |side: usize, calls: u32| {
         let begin = thread_time();
@@ -122,88 +133,92 @@ fn times(mut call: impl FnMut(&dyn Planner)) -> [f64; 2] {
     // The first calls only warm up.
     let once = time(0, 1).max(time(1, 1));
     let calls = (RUN_TIME / once).clamp(1.0, 10_000.0) as u32;
-    let mut figures = [Vec::new(), Vec::new()];
+    let mut runs = Vec::new();
     for run in 0..RUNS {
-        for turn in 0..2 {
-            let side = (run + turn) % 2;
-            figures[side].push(time(side, calls));
+        let mut pair = [0.0; 2];
+        for side in [run % 2, (run + 1) % 2] {
+            pair[side] = time(side, calls);
         }
+        runs.push(pair);
     }
-    figures.map(|mut list| {
-        list.sort_by(f64::total_cmp);
-        list[list.len() / 2]
-    })
+    Times {
+        library: median(runs.iter().map(|[library, _]| *library).collect()),
+        second: median(runs.iter().map(|[_, second]| *second).collect()),
+        ratio: median(
+            runs.iter()
+                .map(|[library, second]| library / second)
+                .collect(),
+        ),
+    }
 }
 
-/// Times a job's call and prints a line.
-fn compare(name: &str, job: &Job) {
-    let vertices = job.anchor.len();
+/// Prints a line; gives the nanoseconds of a turn.
+fn print_line(name: &str, job: &Job, rounds: u64, turns: u64, times: &Times) -> [f64; 2] {
+    let turn = [times.library, times.second].map(|time| time / turns as f64);
+    println!(
+        "{name:<22} {:>6} {rounds:>6} {turns:>7} {:>10.3} {:>10.3} {:>8.0} {:>8.0} {:>7.3}",
+        job.anchor.len(),
+        times.library / 1e6,
+        times.second / 1e6,
+        turn[0],
+        turn[1],
+        times.ratio,
+    );
+    turn
+}
+
+/// Times a job's call; gives the nanoseconds of a turn.
+fn compare(name: &str, job: &Job) -> [f64; 2] {
     let mut lent = Lent::of(job);
     let figures = lent.call(&SecondPlanner, job);
     let mut other = Lent::of(job);
     assert_eq!(other.call(&Library, job), figures);
     assert!(other.route == lent.route && other.log == lent.log && other.work == lent.work);
     let [_, _, _, _, _, rounds, turns, _] = figures;
-    let [library, second] = times(|side| {
-        assert_eq!(black_box(lent.call(side, job)), figures);
-    });
-    let turn = |time: f64| time / turns as f64;
-    println!(
-        "{name:<22} {vertices:>6} {rounds:>6} {turns:>7} {:>10.3} {:>10.3} {:>8.1} {:>8.1} {:>7.3} {:>8.3}",
-        library / 1e6,
-        second / 1e6,
-        turn(library),
-        turn(second),
-        library / second,
-        turn(library) / vertices as f64,
-    );
+    let times = times(|side| assert_eq!(black_box(lent.call(side, job)), figures));
+    print_line(name, job, rounds, turns, &times)
 }
 
-/// Times the bench program's text of a job and prints a line.
+/// Times the bench program's text of a job.
 fn compare_text(name: &str, job: &Job) {
     let bytes = job.bench_bytes();
+    let [_, _, _, _, _, rounds, turns, _] = Lent::of(job).call(&SecondPlanner, job);
     let mut text = vec![0; 300_000];
     let length = SecondPlanner.bench_text(&bytes, &mut text);
     let mut other = vec![0; 300_000];
     assert_eq!(Library.bench_text(&bytes, &mut other), length);
     assert!(other == text);
-    let turns = text[..length].split(|&byte| byte == b'\n').count() - 3;
-    let [library, second] = times(|side| {
-        assert_eq!(
-            black_box(side.bench_text(black_box(&bytes), &mut text)),
-            length
-        );
+    let times = times(|side| {
+        let printed = side.bench_text(black_box(&bytes), &mut text);
+        assert_eq!(black_box(printed), length);
     });
-    let turn = |time: f64| time / turns as f64;
-    println!(
-        "{name:<22} {:>6} {:>6} {turns:>7} {:>10.3} {:>10.3} {:>8.1} {:>8.1} {:>7.3}",
-        job.anchor.len(),
-        "",
-        library / 1e6,
-        second / 1e6,
-        turn(library),
-        turn(second),
-        library / second,
-    );
+    print_line(name, job, rounds, turns, &times);
 }
 
 fn main() {
     println!(
-        "Whole planner calls on floors with eight edges at each vertex, eight guides, house \
-         schedule: processor time, median of {RUNS} alternating runs, the same memory, library / second planner."
+        "Whole calls on floors with eight edges at each vertex, eight guides, house schedule: \
+         processor time, medians of {RUNS} alternating runs in the same memory, library / second \
+         planner."
     );
-    println!(
-        "{:<22} {:>6} {:>6} {:>7} {:>10} {:>10} {:>8} {:>8} {:>7} {:>8}",
-        "", "", "", "", "library", "second", "library", "second", "", "library"
-    );
-    println!(
-        "{:<22} {:>6} {:>6} {:>7} {:>10} {:>10} {:>8} {:>8} {:>7} {:>8}",
-        "job", "V", "rounds", "turns", "ms", "ms", "ns/turn", "ns/turn", "ratio", "ns/t/V"
-    );
+    let titles = |titles: [&str; 9]| {
+        let [a, b, c, d, e, f, g, h, i] = titles;
+        println!("{a:<22} {b:>6} {c:>6} {d:>7} {e:>10} {f:>10} {g:>8} {h:>8} {i:>7}");
+    };
+    titles(["", "", "", "", "library", "second", "library", "second", ""]);
+    titles([
+        "job", "V", "rounds", "turns", "ms", "ms", "ns/turn", "ns/turn", "ratio",
+    ]);
     for (name, sheets) in [("sensible", Sheets::Sensible), ("hostile", Sheets::Hostile)] {
-        for (width, height) in [(16, 16), (32, 16), (32, 32), (64, 32), (64, 64)] {
-            compare(&format!("{name} sheets"), &job(7, width, height, sheets));
-        }
+        let sizes = [(16, 16), (32, 16), (32, 32), (64, 32), (64, 64)];
+        let turns = sizes.map(|(width, height)| {
+            compare(&format!("{name} sheets"), &job(7, width, height, sheets))
+        });
+        let [library, second] = [0, 1].map(|side| turns[4][side] / turns[0][side]);
+        println!(
+            "  from 256 to 4096 vertices a turn takes {library:.1} times as long, second planner \
+             {second:.1} times"
+        );
         compare_text(&format!("{name}, printed text"), &job(7, 16, 16, sheets));
     }
 }
