@@ -23,4 +23,6 @@ fn main() {
     println!("cargo:rerun-if-changed={}", archive.display());
     println!("cargo:rustc-link-search=native={}", directory.display());
     println!("cargo:rustc-link-lib=static=ffi");
+    // For tests that link a C program.
+    println!("cargo:rustc-env=SECONDCOOP_ARCHIVE={}", archive.display());
 }

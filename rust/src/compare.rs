@@ -2,6 +2,7 @@
 //! the whole lent memory, the words around it included.
 
 use crate::ffi::{self, Figures};
+use crate::guarded::Guarded;
 use crate::reference::{self, Refusal};
 
 /// The six calls on plan bytes, each leaving four figures.
@@ -179,50 +180,6 @@ impl Case {
     }
 }
 
-/// Elements of a known pattern before and after lent memory.
-const GUARD: usize = 8;
-
-/// Memory with a pattern in it and around it.
-struct Guarded<T> {
-    all: Vec<T>,
-}
-
-fn byte_pattern(salt: u64, index: usize) -> u8 {
-    (salt as usize)
-        .wrapping_mul(29)
-        .wrapping_add(index.wrapping_mul(37)) as u8
-}
-
-fn word_pattern(salt: u64, index: usize) -> u32 {
-    (salt as u32)
-        .wrapping_mul(0x9E37_79B9)
-        .wrapping_add((index as u32).wrapping_mul(0x0101_0107))
-}
-
-impl<T: Copy> Guarded<T> {
-    fn with_pattern(room: usize, salt: u64, pattern: fn(u64, usize) -> T) -> Self {
-        let all = (0..room + 2 * GUARD)
-            .map(|index| pattern(salt, index))
-            .collect();
-        Guarded { all }
-    }
-
-    fn with_contents(contents: &[T], salt: u64, pattern: fn(u64, usize) -> T) -> Self {
-        let mut guarded = Guarded::with_pattern(contents.len(), salt, pattern);
-        guarded.lent_mut().copy_from_slice(contents);
-        guarded
-    }
-
-    fn lent(&self) -> &[T] {
-        &self.all[GUARD..self.all.len() - GUARD]
-    }
-
-    fn lent_mut(&mut self) -> &mut [T] {
-        let end = self.all.len() - GUARD;
-        &mut self.all[GUARD..end]
-    }
-}
-
 /// A call's figures and all the memory it was lent, guards included.
 #[derive(Clone, Debug, PartialEq, Eq)]
 pub struct Outcome {
@@ -233,10 +190,10 @@ pub struct Outcome {
 
 /// Runs a case; `salt` selects the pattern that fills the memory.
 pub fn run(codec: &dyn Codec, case: &Case, salt: u64) -> Outcome {
-    let bytes_of = |contents: &[u8]| Guarded::with_contents(contents, salt, byte_pattern);
-    let words_of = |contents: &[u32]| Guarded::with_contents(contents, salt, word_pattern);
-    let empty_bytes = |room| Guarded::with_pattern(room, salt, byte_pattern);
-    let empty_words = |room, list| Guarded::with_pattern(room, salt + list, word_pattern);
+    let bytes_of = |contents: &[u8]| Guarded::with_contents(contents, salt);
+    let words_of = |contents: &[u32]| Guarded::with_contents(contents, salt);
+    let empty_bytes = |room| Guarded::<u8>::with_room(room, salt);
+    let empty_words = |room, list| Guarded::<u32>::with_room(room, salt + list);
     match case {
         Case::ReadPlanNumber { bytes, at } => {
             let bytes = bytes_of(bytes);
@@ -401,6 +358,7 @@ impl<'a> Comparison<'a> {
 #[cfg(test)]
 mod tests {
     use super::*;
+    use crate::guarded::GUARD;
 
     #[test]
     fn an_outcome_holds_the_guards() {

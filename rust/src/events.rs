@@ -1,8 +1,9 @@
-//! Counting the rare events of searches, so that tests can require that
-//! they occurred.
+//! Counting the rare events of searches and the shapes of jobs, so that
+//! tests can require that they occurred.
 
 use crate::jobs::Job;
 use crate::planner::{Answer, Event};
+use crate::reference;
 
 /// How often each event was met; see [`Events::names`].
 #[derive(Clone, Debug, Default, PartialEq, Eq)]
@@ -58,6 +59,24 @@ pub struct Events {
     pub free_walk: u64,
     /// The log memory was shorter than the turns.
     pub log_full: u64,
+    /// The plan has edges, and all cost 0.
+    pub zero_costs: u64,
+    /// The plan has an edge whose tail is its head.
+    pub self_edge: u64,
+    /// A guide sheet has one number everywhere, on more than one vertex.
+    pub constant_sheet: u64,
+    /// A guide sheet has the number 4,294,967,295.
+    pub greatest_number: u64,
+    /// A guide sheet is not 0 at the goal.
+    pub not_0_at_goal: u64,
+    /// There are no guides.
+    pub no_guides: u64,
+    /// There are eight guides.
+    pub eight_guides: u64,
+    /// The schedule has sixteen rounds.
+    pub sixteen_rounds: u64,
+    /// The schedule is empty.
+    pub house_schedule: u64,
 }
 
 impl Events {
@@ -87,6 +106,15 @@ impl Events {
             ("start is goal", self.start_is_goal),
             ("walk of cost 0", self.free_walk),
             ("log full", self.log_full),
+            ("all costs 0", self.zero_costs),
+            ("self-edge", self.self_edge),
+            ("constant sheet", self.constant_sheet),
+            ("greatest number in a sheet", self.greatest_number),
+            ("sheet not 0 at the goal", self.not_0_at_goal),
+            ("no guides", self.no_guides),
+            ("eight guides", self.eight_guides),
+            ("sixteen rounds", self.sixteen_rounds),
+            ("house schedule", self.house_schedule),
         ]
     }
 
@@ -198,8 +226,30 @@ impl Events {
             self.log_full += u64::from(turns as usize > job.log_room);
         }
         if !matches!(answer, Answer::Refused { .. }) {
-            self.start_is_goal += u64::from(job.start == job.goal);
+            self.count_shape(job);
         }
         answer
+    }
+
+    /// Counts what the job is like.
+    fn count_shape(&mut self, job: &Job) {
+        let (mut zero_costs, mut self_edge) = (true, false);
+        let (_, edges) = reference::walk_plan(&job.bytes, |_, tail, head, cost| {
+            zero_costs &= cost == 0;
+            self_edge |= tail == head;
+        })
+        .expect("the plan is valid");
+        let sheets = || job.guides.chunks_exact(job.anchor.len());
+        let constant = |sheet: &[u32]| sheet.len() > 1 && sheet.iter().all(|&h| h == sheet[0]);
+        self.start_is_goal += u64::from(job.start == job.goal);
+        self.zero_costs += u64::from(edges > 0 && zero_costs);
+        self.self_edge += u64::from(self_edge);
+        self.constant_sheet += u64::from(sheets().any(constant));
+        self.greatest_number += u64::from(job.guides.contains(&u32::MAX));
+        self.not_0_at_goal += u64::from(sheets().any(|sheet| sheet[job.goal as usize] > 0));
+        self.no_guides += u64::from(job.guide_count == 0);
+        self.eight_guides += u64::from(job.guide_count == 8);
+        self.sixteen_rounds += u64::from(job.schedule.len() == 32);
+        self.house_schedule += u64::from(job.schedule.is_empty());
     }
 }

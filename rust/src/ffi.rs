@@ -1,9 +1,13 @@
 //! The C interface of the library under test, and safe calls over slices.
 //!
-//! Each call leaves four figures: refusal number, position, first value and
-//! second value; unused figures are 0.
+//! Each call on plan bytes leaves four figures: refusal number, position,
+//! first value and second value; unused figures are 0. A planner call leaves
+//! eight.
 
-/// What a call leaves: refusal number, position, first and second value.
+use crate::planner::{self, Memory, Request};
+
+/// What a call on plan bytes leaves: refusal number, position, first and
+/// second value.
 pub type Figures = [u64; 4];
 
 extern "C" {
@@ -50,18 +54,59 @@ extern "C" {
         out_length: usize,
         figures: *mut u64,
     );
+    fn secondcoop_plan(
+        bytes: *const u8,
+        bytes_length: usize,
+        start: u32,
+        goal: u32,
+        anchor: *const u32,
+        anchor_length: usize,
+        guides: *const u32,
+        guides_length: usize,
+        guide_count: u32,
+        schedule: *const u32,
+        schedule_length: usize,
+        budget: u32,
+        route: *mut u32,
+        route_length: usize,
+        log: *mut u32,
+        log_length: usize,
+        work: *mut u32,
+        work_length: usize,
+        figures: *mut u64,
+    );
+    fn secondcoop_bench_text(
+        job: *const u8,
+        job_length: usize,
+        text: *mut u8,
+        text_length: usize,
+    ) -> usize;
 }
 
 /// What the figures and the words around them hold before a call.
 const GUARD: u64 = 0xA5A5_5A5A_C3C3_3C3C;
 
-/// Runs a call with four guarded figures.
-fn figures_of(call: impl FnOnce(*mut u64)) -> Figures {
-    let mut guarded = [GUARD; 8];
-    call(guarded[2..6].as_mut_ptr());
-    let [a, b, first, second, third, fourth, c, d] = guarded;
-    assert_eq!([a, b, c, d], [GUARD; 4], "figures written out of bounds");
-    [first, second, third, fourth]
+/// Figures between guards.
+#[repr(C)]
+struct GuardedFigures<const N: usize> {
+    before: [u64; 2],
+    figures: [u64; N],
+    after: [u64; 2],
+}
+
+/// Runs a call with guarded figures.
+fn figures_of<const N: usize>(call: impl FnOnce(*mut u64)) -> [u64; N] {
+    let mut guarded = GuardedFigures {
+        before: [GUARD; 2],
+        figures: [GUARD; N],
+        after: [GUARD; 2],
+    };
+    let all: *mut GuardedFigures<N> = &mut guarded;
+    // SAFETY: the pointer is that of the live figures.
+    call(unsafe { &raw mut (*all).figures }.cast());
+    let guards = [guarded.before, guarded.after];
+    assert_eq!(guards, [[GUARD; 2]; 2], "figures written out of bounds");
+    guarded.figures
 }
 
 pub fn read_plan_number(bytes: &[u8], at: usize) -> Figures {
@@ -129,4 +174,50 @@ pub fn write_plan(
             figures,
         )
     })
+}
+
+/// A planner call.
+pub fn plan(request: &Request, memory: Memory) -> planner::Figures {
+    let &Request {
+        bytes,
+        start,
+        goal,
+        anchor,
+        guides,
+        guide_count,
+        schedule,
+        budget,
+    } = request;
+    let Memory { route, log, work } = memory;
+    // SAFETY: as above, and the memory is lent mutably and is disjoint.
+    figures_of(|figures| unsafe {
+        secondcoop_plan(
+            bytes.as_ptr(),
+            bytes.len(),
+            start,
+            goal,
+            anchor.as_ptr(),
+            anchor.len(),
+            guides.as_ptr(),
+            guides.len(),
+            guide_count,
+            schedule.as_ptr(),
+            schedule.len(),
+            budget,
+            route.as_mut_ptr(),
+            route.len(),
+            log.as_mut_ptr(),
+            log.len(),
+            work.as_mut_ptr(),
+            work.len(),
+            figures,
+        )
+    })
+}
+
+/// What the bench program prints for a job's bytes: the length of the text,
+/// whose first bytes are written as far as there is room.
+pub fn bench_text(job: &[u8], text: &mut [u8]) -> usize {
+    // SAFETY: as above, and `text` is lent mutably.
+    unsafe { secondcoop_bench_text(job.as_ptr(), job.len(), text.as_mut_ptr(), text.len()) }
 }

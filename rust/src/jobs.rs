@@ -1,13 +1,14 @@
 //! Seeded jobs for the planner: tiny graphs, ladders, grids, zero costs,
 //! self-edges, hostile and constant sheets, budgets around the ends of
 //! rounds, start = goal, no walk to the goal, and jobs damaged for each
-//! refusal. Also running a job in guarded memory and counting rare events.
+//! refusal.
 
 use std::collections::BTreeMap;
 
+use crate::bench_text;
 use crate::dijkstra;
 use crate::generate::{self, Plan};
-use crate::planner::{self, Answer, Event, Fault};
+use crate::planner::{self, Answer, Event, Memory, Request};
 use crate::random::Random;
 
 /// A planner call with the lengths of its lent memory.
@@ -24,50 +25,6 @@ pub struct Job {
     pub route_room: usize,
     pub log_room: usize,
     pub work_room: usize,
-}
-
-/// A call's answer and its whole lent memory, guards included.
-#[derive(Clone, Debug, PartialEq, Eq)]
-pub struct Outcome {
-    pub answer: Answer,
-    pub route: Vec<u32>,
-    pub log: Vec<u32>,
-    pub work: Vec<u32>,
-}
-
-/// Words of a known pattern before and after lent memory.
-pub const GUARD: usize = 8;
-
-/// A word that lent memory holds before a call, guards included; `memory` is
-/// 0 for route, 1 for log and 2 for work memory.
-pub fn pattern(salt: u64, memory: u32, index: usize) -> u32 {
-    (salt as u32)
-        .wrapping_mul(0x9E37_79B9)
-        .wrapping_add(memory.wrapping_mul(0x5851_F42D))
-        .wrapping_add((index as u32).wrapping_mul(0x0101_0107))
-}
-
-/// A planner call under comparison, as the arguments of [`planner::plan`].
-pub trait Planner {
-    fn plan(&self, job: &Job, route: &mut [u32], log: &mut [u32], work: &mut [u32]) -> Answer;
-}
-
-/// The second planner.
-pub struct SecondPlanner;
-
-impl Planner for SecondPlanner {
-    fn plan(&self, job: &Job, route: &mut [u32], log: &mut [u32], work: &mut [u32]) -> Answer {
-        job.observed(route, log, work, None, &mut |_| ())
-    }
-}
-
-/// The second planner with a fault.
-pub struct FaultyPlanner(pub Fault);
-
-impl Planner for FaultyPlanner {
-    fn plan(&self, job: &Job, route: &mut [u32], log: &mut [u32], work: &mut [u32]) -> Answer {
-        job.observed(route, log, work, Some(self.0), &mut |_| ())
-    }
 }
 
 impl Job {
@@ -99,68 +56,32 @@ impl Job {
         }
     }
 
-    /// The second planner's call with its events, with a fault if one is
-    /// wanted.
-    pub fn observed(
-        &self,
-        route: &mut [u32],
-        log: &mut [u32],
-        work: &mut [u32],
-        fault: Option<Fault>,
-        observe: &mut dyn FnMut(Event),
-    ) -> Answer {
-        planner::plan_observed(
-            &self.bytes,
-            self.start,
-            self.goal,
-            &self.anchor,
-            &self.guides,
-            self.guide_count,
-            &self.schedule,
-            self.budget,
-            route,
-            log,
-            work,
-            fault,
-            observe,
-        )
+    /// What the call is asked.
+    pub fn request(&self) -> Request<'_> {
+        Request {
+            bytes: &self.bytes,
+            start: self.start,
+            goal: self.goal,
+            anchor: &self.anchor,
+            guides: &self.guides,
+            guide_count: self.guide_count,
+            schedule: &self.schedule,
+            budget: self.budget,
+        }
     }
 
     /// The second planner's answer and events, memory left aside.
     pub fn events(&self) -> (Answer, Vec<Event>) {
         let mut events = Vec::new();
-        let answer = self.observed(
-            &mut vec![0; self.route_room],
-            &mut [],
-            &mut vec![0; self.work_room],
-            None,
-            &mut |event| events.push(event),
-        );
-        (answer, events)
-    }
-
-    /// Runs the job in guarded memory filled with a pattern.
-    pub fn run(&self, planner: &dyn Planner, salt: u64) -> Outcome {
-        let memory = |number: u32, room: usize| -> Vec<u32> {
-            (0..room + 2 * GUARD)
-                .map(|index| pattern(salt, number, index))
-                .collect()
+        let memory = Memory {
+            route: &mut vec![0; self.route_room],
+            log: &mut [],
+            work: &mut vec![0; self.work_room],
         };
-        let mut route = memory(0, self.route_room);
-        let mut log = memory(1, self.log_room);
-        let mut work = memory(2, self.work_room);
-        let answer = planner.plan(
-            self,
-            &mut route[GUARD..GUARD + self.route_room],
-            &mut log[GUARD..GUARD + self.log_room],
-            &mut work[GUARD..GUARD + self.work_room],
-        );
-        Outcome {
-            answer,
-            route,
-            log,
-            work,
-        }
+        let answer = planner::plan_observed(&self.request(), memory, None, &mut |event| {
+            events.push(event)
+        });
+        (answer, events)
     }
 
     /// The job as the bench program's bytes.
@@ -836,6 +757,56 @@ pub fn damaged_jobs(seed: u64, count: usize, sink: &mut dyn FnMut(&Job, Answer))
     }
 }
 
+/// Jobs with several faults at once, in any order, and with bytes changed at
+/// random; what they get is not known from their making.
+pub fn wild_jobs(seed: u64, count: usize, sink: &mut dyn FnMut(&Job)) {
+    let mut random = Random::new(seed);
+    for _ in 0..count {
+        let shape = random.pick(&SHAPES);
+        let (plan, mut job) = random_job(&mut random, shape);
+        job.budget = random.pick(&[0, 1, 2, 5, 100, u32::MAX]);
+        for _ in 0..random.below(4) {
+            // Only call faults are laid one over another: the anchor's rows
+            // need a goal and a table of V numbers.
+            let whole = job.goal < plan.vertices && job.anchor.len() == plan.vertices as usize;
+            let most = if whole { 13 } else { 11 };
+            let number = random.range32(8, most);
+            damage_job(&mut random, &plan, &mut job, number);
+        }
+        if random.one_in(3) {
+            for _ in 0..random.range(1, 3) {
+                let at = random.index(job.bytes.len());
+                match random.below(4) {
+                    0 => job.bytes[at] ^= 1 << random.below(8),
+                    1 => job.bytes[at] = random.byte(),
+                    2 if job.bytes.len() > 1 => drop(job.bytes.remove(at)),
+                    _ => job.bytes.insert(at, random.byte()),
+                }
+            }
+        }
+        sink(&job);
+    }
+}
+
+/// Small jobs with every budget from 0 to two turns past the last end of a
+/// round.
+pub fn every_budget(seed: u64, count: usize, sink: &mut dyn FnMut(&Plan, &Job)) {
+    let mut random = Random::new(seed);
+    for _ in 0..count {
+        let (plan, mut job) = match random.below(4) {
+            0 => twisted_job(&mut random),
+            1 => detour_job(&mut random),
+            2 => steep_job(&mut random),
+            _ => random_job(&mut random, Shape::Tiny),
+        };
+        let last = ends_of_rounds(&job).into_iter().max().unwrap_or(0);
+        for budget in 0..=last + 2 {
+            job.budget = budget;
+            sink(&plan, &job);
+        }
+    }
+}
+
 /// A fault of form in a bench job's bytes: each gets refusal 14 at 0, if no
 /// earlier row of the table counts.
 pub fn damage_bench(random: &mut Random, plan: &Plan, job: &Job) -> Vec<u8> {
@@ -899,8 +870,13 @@ pub fn damage_bench(random: &mut Random, plan: &Plan, job: &Job) -> Vec<u8> {
                 bytes.insert(at + 5, random.range(0, 1) as u8);
             }
         }
-        // Over 32,768 bytes.
-        7 => bytes.resize(planner::MOST_JOB_BYTES + 1 + random.index(3), 0),
+        // Over 32,768 bytes, which counts before a plan of no vertices.
+        7 => {
+            bytes.resize(bench_text::MOST_JOB_BYTES + 1 + random.index(3), 0);
+            if random.one_in(2) {
+                bytes[head - job.bytes.len()] = 0;
+            }
+        }
         // Too many vertices or edges.
         _ => {
             let vertices = random.pick(&[257, 300, 4_096]);
@@ -952,7 +928,7 @@ pub fn large_jobs(seed: u64, sink: &mut dyn FnMut(&Plan, &Job)) {
         sink(&path, &job);
     }
     // Sixteen rounds and eight guides on the largest bench plan.
-    let mut bench = generate::random_plan(&mut random, 256, 2_048);
+    let mut bench = connected(&mut random, 256);
     bench.costs.fill_with(|| random.range32(0, 99));
     for _ in 0..3 {
         let mut job = job_on(&mut random, &bench);
@@ -971,6 +947,49 @@ pub fn large_jobs(seed: u64, sink: &mut dyn FnMut(&Plan, &Job)) {
         job.log_room = 9_000;
         sink(&most, &job);
     }
+    // And all guides and rounds, with budgets around the ends of some rounds.
+    let mut most = connected(&mut random, 4_096);
+    most.costs.fill_with(|| random.range32(0, 999));
+    let mut job = job_on(&mut random, &most);
+    (job.start, job.goal) = (17, 4_000);
+    job.anchor = random_anchor(&mut random, &most, job.goal);
+    job.guide_count = 8;
+    let sheets = (0..8).map(|_| random_sheet(&mut random, &most, job.goal, &job.anchor));
+    job.guides = sheets.collect::<Vec<_>>().concat();
+    job.schedule = falling_factors(&mut random, 16, [1_000, 1_000]);
+    job.schedule[30..].fill(100);
+    job.log_room = 2 * 16 * 4_096;
+    sink(&most, &job);
+    for end in ends_of_rounds(&job).into_iter().step_by(5) {
+        for budget in [end.saturating_sub(1), end, end + 1] {
+            job.budget = budget;
+            sink(&most, &job);
+        }
+    }
+}
+
+/// A plan in which every vertex has eight edges: a walk leads from almost
+/// every vertex to almost every other.
+fn connected(random: &mut Random, vertices: u32) -> Plan {
+    let mut plan = Plan {
+        vertices,
+        tails: Vec::new(),
+        heads: Vec::new(),
+        costs: vec![0; 8 * vertices as usize],
+    };
+    for tail in 0..plan.vertices {
+        let mut heads: Vec<u32> = Vec::new();
+        while heads.len() < 8 {
+            let head = random.range32(0, plan.vertices - 1);
+            if !heads.contains(&head) {
+                heads.push(head);
+            }
+        }
+        heads.sort_unstable();
+        plan.tails.extend([tail; 8]);
+        plan.heads.extend(heads);
+    }
+    plan
 }
 
 /// Bytes for the bench program with the text that their making decides:
@@ -992,8 +1011,24 @@ pub fn bench_jobs(seed: u64, count: usize, sink: &mut dyn FnMut(&[u8], Option<St
                 };
                 // An odd schedule cannot be written as a bench job, and one
                 // that is too long is refused as 14.
-                if job.schedule.len() % 2 == 0 && job.schedule.len() <= 32 {
-                    sink(&job.bench_bytes(), refused(number, position));
+                if job.schedule.len() % 2 == 1 || job.schedule.len() > 32 {
+                    return;
+                }
+                // Tables that are short or leave bytes over count after the
+                // plan's faults and before the call's.
+                let tables = random.below(6);
+                match tables {
+                    0 => drop(job.anchor.pop()),
+                    1 => job.anchor.push(0),
+                    _ => {}
+                }
+                let mut bytes = job.bench_bytes();
+                if number <= 7 && tables == 2 {
+                    bytes.resize(bench_text::MOST_JOB_BYTES, 0);
+                }
+                match number {
+                    8.. if tables < 2 => sink(&bytes, refused(14, 0)),
+                    _ => sink(&bytes, refused(number, position)),
                 }
             }
             2 => {

@@ -2,12 +2,17 @@
 //! written from the paper alone, and what is needed to compare the library
 //! under test with it.
 
+pub mod bench_text;
+pub mod clock;
 pub mod compare;
 pub mod dijkstra;
 pub mod events;
 pub mod ffi;
 pub mod generate;
+pub mod guarded;
 pub mod jobs;
 pub mod planner;
+pub mod planners;
 pub mod random;
 pub mod reference;
+pub mod text;

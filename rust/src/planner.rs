@@ -1,5 +1,6 @@
 //! The second planner, written from the paper alone: every least key is
-//! found by a scan over all vertices.
+//! found by a scan over all vertices, and the search works in the lent
+//! memory alone.
 //!
 //! The paper's places are vertices here, its lanes edges, its chains walks
 //! and its allowance the budget of turns.
@@ -11,6 +12,32 @@ pub const NONE: u32 = u32::MAX;
 
 /// W1 and W2 of each round where the schedule is empty.
 pub const HOUSE_SCHEDULE: [u32; 12] = [500, 500, 300, 300, 200, 200, 150, 150, 120, 120, 100, 100];
+
+/// What one planner call is asked: the paper's job. The guide sheets stand
+/// one after another, the schedule has W1 and W2 of each round.
+#[derive(Clone, Copy, Debug)]
+pub struct Request<'a> {
+    pub bytes: &'a [u8],
+    pub start: u32,
+    pub goal: u32,
+    pub anchor: &'a [u32],
+    pub guides: &'a [u32],
+    pub guide_count: u32,
+    pub schedule: &'a [u32],
+    pub budget: u32,
+}
+
+/// The memory that a call is lent.
+pub struct Memory<'a> {
+    pub route: &'a mut [u32],
+    pub log: &'a mut [u32],
+    pub work: &'a mut [u32],
+}
+
+/// What a call leaves in figures: ending (0 route, 1 no route, 2 unfinished,
+/// 3 refused), refusal number, position, kept cost, route length, finished
+/// rounds, turns and bound; unused figures are 0.
+pub type Figures = [u64; 8];
 
 /// What a call hands over.
 #[derive(Clone, Copy, Debug, PartialEq, Eq)]
@@ -34,6 +61,51 @@ pub enum Answer {
         number: u32,
         position: usize,
     },
+}
+
+impl Answer {
+    pub fn figures(&self) -> Figures {
+        match *self {
+            Answer::Route {
+                cost,
+                length,
+                rounds,
+                turns,
+                bound,
+            } => {
+                let [cost, length, rounds, turns, bound] =
+                    [cost, length, rounds, turns, bound].map(u64::from);
+                [0, 0, 0, cost, length, rounds, turns, bound]
+            }
+            Answer::NoRoute { turns } => [1, 0, 0, 0, 0, 0, turns.into(), 0],
+            Answer::Unfinished { turns } => [2, 0, 0, 0, 0, 0, turns.into(), 0],
+            Answer::Refused { number, position } => {
+                [3, number.into(), position as u64, 0, 0, 0, 0, 0]
+            }
+        }
+    }
+
+    /// The answer that has these figures, if there is one.
+    pub fn of_figures(figures: Figures) -> Option<Answer> {
+        let [ending, number, position, cost, length, rounds, turns, bound] =
+            figures.map(|figure| figure as u32);
+        let answer = match ending {
+            0 => Answer::Route {
+                cost,
+                length,
+                rounds,
+                turns,
+                bound,
+            },
+            1 => Answer::NoRoute { turns },
+            2 => Answer::Unfinished { turns },
+            _ => Answer::Refused {
+                number,
+                position: position as usize,
+            },
+        };
+        (answer.figures() == figures).then_some(answer)
+    }
 }
 
 /// What happens in a search, for those who count events.
@@ -140,86 +212,54 @@ pub const FAULTS: [Fault; 21] = [
     Fault::BudgetOfRound,
 ];
 
-/// A vertex in the search: the paper's cost g, cost when last expanded,
-/// predecessor and marks.
-#[derive(Clone, Copy)]
-struct Vertex {
-    g: u32,
-    expanded_at: u32,
-    predecessor: u32,
-    guide_mark: bool,
-    anchor_mark: bool,
-    open: bool,
-    held: bool,
+/// Who looks on at a search: counts its events, or plants a fault.
+trait Onlooker {
+    fn has(&self, _fault: Fault) -> bool {
+        false
+    }
+
+    fn observe(&mut self, _event: impl FnOnce() -> Event) {}
 }
 
-impl Vertex {
-    const NOT_REACHED: Vertex = Vertex {
-        g: NONE,
-        expanded_at: NONE,
-        predecessor: NONE,
-        guide_mark: false,
-        anchor_mark: false,
-        open: false,
-        held: false,
-    };
+/// The planner as it is.
+struct Nobody;
 
-    fn words(&self) -> [u32; 4] {
-        let marks = u32::from(self.guide_mark)
-            + 2 * u32::from(self.anchor_mark)
-            + 4 * u32::from(self.open)
-            + 8 * u32::from(self.held);
-        [self.g, self.expanded_at, self.predecessor, marks]
+impl Onlooker for Nobody {}
+
+/// Hands all events on, with a fault if one is wanted.
+struct Observer<'a> {
+    fault: Option<Fault>,
+    observe: &'a mut dyn FnMut(Event),
+}
+
+impl Onlooker for Observer<'_> {
+    fn has(&self, fault: Fault) -> bool {
+        self.fault == Some(fault)
+    }
+
+    fn observe(&mut self, event: impl FnOnce() -> Event) {
+        (self.observe)(event());
     }
 }
 
-/// A checked plan with the edges of each vertex together.
-struct Graph {
-    /// V + 1 numbers of first edges; the last is M.
-    first: Vec<u32>,
-    tails: Vec<u32>,
-    heads: Vec<u32>,
-    costs: Vec<u32>,
-}
+/// A vertex in the search, as it stands in work memory: the paper's cost g,
+/// cost when last expanded, predecessor, and marks as a sum.
+type Vertex = [u32; 4];
 
-impl Graph {
-    fn read(bytes: &[u8]) -> Result<Graph, reference::Refusal> {
-        let (vertices, edges) = reference::check_plan(bytes)?;
-        let edges = edges as usize;
-        let (mut tails, mut heads, mut costs) = (vec![0; edges], vec![0; edges], vec![0; edges]);
-        reference::read_plan(bytes, &mut tails, &mut heads, &mut costs)?;
-        // The first edge of a vertex is numbered by the edges of smaller tail.
-        let first = (0..=vertices)
-            .map(|vertex| tails.partition_point(|&tail| tail < vertex) as u32)
-            .collect();
-        Ok(Graph {
-            first,
-            tails,
-            heads,
-            costs,
-        })
-    }
+const GUIDE_MARK: u32 = 1;
+const ANCHOR_MARK: u32 = 2;
+const OPEN: u32 = 4;
+const HELD: u32 = 8;
 
-    fn vertices(&self) -> usize {
-        self.first.len() - 1
-    }
+/// A vertex that no walk has reached yet.
+const NOT_REACHED: Vertex = [NONE, NONE, NONE, 0];
 
-    fn edges(&self) -> usize {
-        self.heads.len()
-    }
-
-    fn edges_of(&self, vertex: usize) -> std::ops::Range<usize> {
-        self.first[vertex] as usize..self.first[vertex + 1] as usize
-    }
-
-    /// The cost of the one edge from tail to head.
-    fn cost_between(&self, tail: u32, head: u32) -> u32 {
-        let edge = self
-            .edges_of(tail as usize)
-            .find(|&edge| self.heads[edge] == head)
-            .expect("a predecessor has an edge to its vertex");
-        self.costs[edge]
-    }
+/// The vertices that predecessors trace from the goal to the start.
+fn traced(vertices: &[Vertex], goal: usize) -> impl Iterator<Item = u32> + '_ {
+    std::iter::successors(Some(goal as u32), |&vertex| {
+        let [_, _, before, _] = vertices[vertex as usize];
+        (before != NONE).then_some(before)
+    })
 }
 
 /// How a search ends.
@@ -236,238 +276,280 @@ struct Factors {
     w2: u64,
 }
 
-struct Search<'a> {
-    graph: &'a Graph,
+/// The search in hand; it works in the lent memory alone.
+struct Search<'a, O> {
+    /// V + 1 numbers of first edges; the last is M.
+    first: &'a [u32],
+    heads: &'a [u32],
+    costs: &'a [u32],
+    vertices: &'a mut [Vertex],
     goal: usize,
-    /// The anchor table, then the guide sheets.
-    tables: Vec<&'a [u32]>,
+    anchor: &'a [u32],
+    /// The guide sheets, one after another.
+    guides: &'a [u32],
+    guide_count: usize,
     budget: u32,
-    vertices: Vec<Vertex>,
-    /// Each turn's table and vertex.
-    turns: Vec<(u32, u32)>,
-    kept: Option<(u32, Vec<u32>)>,
-    finished: u32,
+    route: &'a mut [u32],
+    log: &'a mut [u32],
+    turns: u32,
+    /// Finished rounds, and W1·W2 of the last of them.
+    rounds: u32,
     bound: u32,
+    /// Cost and length of the kept route, which stands in route memory.
+    kept: Option<(u32, u32)>,
     /// Turns before the round in hand, and the guide that a faulty planner
     /// goes on with.
     turns_before: u32,
     next_guide: usize,
-    fault: Option<Fault>,
+    onlooker: O,
 }
 
-impl Search<'_> {
-    fn has(&self, fault: Fault) -> bool {
-        self.fault == Some(fault)
+impl<O: Onlooker> Search<'_, O> {
+    /// The table of a guide, counted from 1.
+    fn guide(&self, guide: usize) -> &[u32] {
+        let vertices = self.vertices.len();
+        &self.guides[(guide - 1) * vertices..guide * vertices]
     }
 
-    /// key(s,i) = 100·g(s) + W1·hi(s).
-    fn key(&self, vertex: usize, table: usize, factors: Factors) -> u64 {
-        100 * u64::from(self.vertices[vertex].g)
-            + factors.w1 * u64::from(self.tables[table][vertex])
-    }
-
-    /// The least key of a table over some open vertices, and its vertex;
-    /// equal keys: the lowest vertex.
-    fn least(
-        &self,
-        table: usize,
-        factors: Factors,
-        allowed: impl Fn(&Vertex) -> bool,
-    ) -> Option<(u64, usize)> {
-        (0..self.vertices.len())
-            .filter(|&vertex| self.vertices[vertex].open && allowed(&self.vertices[vertex]))
-            .map(|vertex| (self.key(vertex, table, factors), vertex))
-            .min_by_key(|&(key, vertex)| {
-                let highest = self.has(Fault::HighestVertex);
-                (key, if highest { usize::MAX - vertex } else { vertex })
-            })
-    }
-
-    fn expand(&mut self, vertex: usize) {
-        let g = self.vertices[vertex].g;
-        let (equal, open_again) = (self.has(Fault::EqualTaken), self.has(Fault::OpenAgain));
-        self.vertices[vertex].open = false;
-        self.vertices[vertex].expanded_at = g;
-        for edge in self.graph.edges_of(vertex) {
-            let cost = u64::from(g) + u64::from(self.graph.costs[edge]);
-            let head = &mut self.vertices[self.graph.heads[edge] as usize];
-            let same = equal && cost == u64::from(head.g) && head.expanded_at == NONE;
-            if cost < u64::from(head.g) || same {
-                head.g = cost as u32;
-                head.predecessor = vertex as u32;
-                if head.anchor_mark && !open_again {
-                    head.held = true;
-                } else {
-                    head.open = true;
+    /// The least key(s,i) = 100·g(s) + W1·hi(s) over the open vertices
+    /// without the marks `without`, and its vertex; equal keys: the lowest
+    /// vertex.
+    fn least(&self, table: &[u32], w1: u64, without: u32) -> Option<(u64, usize)> {
+        // No key is so great: 10,100 · 4,294,967,295 is the most.
+        let (mut least, mut lowest) = (u64::MAX, None);
+        for (vertex, (&[g, _, _, marks], &h)) in self.vertices.iter().zip(table).enumerate() {
+            if marks & (OPEN | without) == OPEN {
+                let key = 100 * u64::from(g) + w1 * u64::from(h);
+                if key < least || key == least && self.onlooker.has(Fault::HighestVertex) {
+                    (least, lowest) = (key, Some(vertex));
                 }
             }
         }
+        Some((least, lowest?))
     }
 
-    /// The walk of predecessors from start to goal and its true sum.
-    fn trace(&self) -> (u32, Vec<u32>) {
-        let mut walk = vec![self.goal as u32];
-        let mut cost = 0;
-        let mut vertex = self.goal as u32;
-        loop {
-            let before = self.vertices[vertex as usize].predecessor;
-            if before == NONE {
-                break;
+    fn expand(&mut self, vertex: usize) {
+        let [g, expanded_at, _, marks] = &mut self.vertices[vertex];
+        *expanded_at = *g;
+        *marks &= !OPEN;
+        let g = *g;
+        let edges = self.first[vertex] as usize..self.first[vertex + 1] as usize;
+        for (&head, &cost) in self.heads[edges.clone()].iter().zip(&self.costs[edges]) {
+            // No walk without a ring costs over 4,095,000,000: no overflow.
+            let cost = g + cost;
+            let [g, expanded_at, predecessor, marks] = &mut self.vertices[head as usize];
+            let same = self.onlooker.has(Fault::EqualTaken) && cost == *g && *expanded_at == NONE;
+            if cost < *g || same {
+                *g = cost;
+                *predecessor = vertex as u32;
+                let hold = *marks & ANCHOR_MARK != 0 && !self.onlooker.has(Fault::OpenAgain);
+                *marks |= if hold { HELD } else { OPEN };
             }
-            cost += self.graph.cost_between(before, vertex);
-            walk.push(before);
-            assert!(walk.len() <= self.vertices.len(), "predecessors in a ring");
-            vertex = before;
         }
-        walk.reverse();
-        (cost, walk)
     }
 
+    /// The cost of the one edge from tail to head.
+    fn cost_between(&self, tail: u32, head: u32) -> u32 {
+        let edges = self.first[tail as usize] as usize..self.first[tail as usize + 1] as usize;
+        let edge = edges
+            .into_iter()
+            .find(|&edge| self.heads[edge] == head)
+            .expect("a predecessor has an edge to its vertex");
+        self.costs[edge]
+    }
+
+    /// The true sum of the traced walk and its length in vertices.
+    fn trace(&self) -> (u32, u32) {
+        let (mut cost, mut length) = (0, 1);
+        let mut head = self.goal as u32;
+        for tail in traced(self.vertices, self.goal).skip(1) {
+            cost += self.cost_between(tail, head);
+            length += 1;
+            assert!(length as usize <= self.vertices.len(), "a ring is traced");
+            head = tail;
+        }
+        (cost, length)
+    }
+
+    /// Keeps the traced walk: it is written to route memory.
+    fn keep(&mut self, cost: u32, length: u32) {
+        let (walk, rest) = self.route.split_at_mut(length as usize);
+        rest.fill(NONE);
+        let places = walk.iter_mut().rev();
+        for (place, vertex) in places.zip(traced(self.vertices, self.goal)) {
+            *place = vertex;
+        }
+        self.kept = Some((cost, length));
+    }
+
+    /// Held vertices become open, and all guide and anchor marks go.
     fn begin_round(&mut self) {
-        let fault = self.fault;
-        for vertex in &mut self.vertices {
-            if fault != Some(Fault::Forgotten) {
-                vertex.open |= vertex.held;
-                vertex.held = false;
+        let mut stay = OPEN | HELD;
+        if self.onlooker.has(Fault::GuideMarksStay) {
+            stay |= GUIDE_MARK;
+        }
+        if self.onlooker.has(Fault::AnchorMarksStay) {
+            stay |= ANCHOR_MARK;
+        }
+        for [_, expanded_at, _, marks] in self.vertices.iter_mut() {
+            *marks &= stay;
+            if *marks & HELD != 0 && !self.onlooker.has(Fault::Forgotten) {
+                *marks = *marks & !HELD | OPEN;
             }
-            vertex.guide_mark &= fault == Some(Fault::GuideMarksStay);
-            vertex.anchor_mark &= fault == Some(Fault::AnchorMarksStay);
-            if fault == Some(Fault::ExpandedForgotten) {
-                vertex.expanded_at = NONE;
+            if self.onlooker.has(Fault::ExpandedForgotten) {
+                *expanded_at = NONE;
             }
         }
     }
 
     /// Whether step 2 ends the search.
     fn spent(&self) -> bool {
-        let mut turns = self.turns.len() as u32;
-        if self.has(Fault::BudgetOfRound) {
+        let mut turns = self.turns;
+        if self.onlooker.has(Fault::BudgetOfRound) {
             turns -= self.turns_before;
         }
         turns == self.budget
     }
 
+    /// Notes a turn in the log, as far as there is room.
+    fn note_turn(&mut self, table: usize, vertex: usize) {
+        if let Some(word) = self.log.get_mut(self.turns as usize) {
+            *word = vertex as u32 + 65_536 * table as u32;
+        }
+        self.turns += 1;
+    }
+
     /// One round; `None` if it is finished.
-    fn round(
-        &mut self,
-        round: u32,
-        factors: Factors,
-        observe: &mut dyn FnMut(Event),
-    ) -> Option<End> {
-        let guides = self.tables.len() - 1;
+    fn round(&mut self, round: u32, factors: Factors) -> Option<End> {
         let mut guide = 1;
-        if self.has(Fault::GuideGoesOn) {
+        if self.onlooker.has(Fault::GuideGoesOn) {
             guide = self.next_guide;
         }
         loop {
-            let turns = self.turns.len() as u32;
-            if self.has(Fault::BudgetFirst) && self.spent() {
+            let turns = self.turns;
+            if self.onlooker.has(Fault::BudgetFirst) && self.spent() {
                 return Some(End::Spent);
             }
             // Step 1.
-            let Some((m, anchor_choice)) = self.least(0, factors, |_| true) else {
-                let held = self.vertices.iter().filter(|vertex| vertex.held).count() as u32;
-                observe(Event::NoRoute { round, turns, held });
+            let Some((m, anchor_choice)) = self.least(self.anchor, factors.w1, 0) else {
+                let held = |[_, _, _, marks]: &&Vertex| marks & HELD != 0;
+                let held = self.vertices.iter().filter(held).count() as u32;
+                self.onlooker
+                    .observe(|| Event::NoRoute { round, turns, held });
                 return Some(End::NoRoute);
             };
-            let goal_cost = self.vertices[self.goal].g;
-            let factor = match self.fault {
-                Some(Fault::FinishByW1) => factors.w1,
-                _ => factors.w2,
+            let [goal_cost, ..] = self.vertices[self.goal];
+            let factor = match self.onlooker.has(Fault::FinishByW1) {
+                true => factors.w1,
+                false => factors.w2,
             };
-            let least = 10_000 * u64::from(goal_cost) + u64::from(self.has(Fault::FinishStrict));
-            if goal_cost != NONE && least <= factor * m {
+            let strict = u64::from(self.onlooker.has(Fault::FinishStrict));
+            if goal_cost != NONE && 10_000 * u64::from(goal_cost) + strict <= factor * m {
                 return None;
             }
             // Step 2.
             if self.spent() {
-                observe(Event::Cut { round, turns });
+                self.onlooker.observe(|| Event::Cut { round, turns });
                 return Some(End::Spent);
             }
             // Step 3.
             let mut choice = None;
             let mut no_line = false;
-            if guides > 0 {
-                let again = self.has(Fault::GuideMarkIgnored);
-                let line = self.least(guide, factors, |vertex| !vertex.guide_mark || again);
+            if self.guide_count > 0 {
+                let without = match self.onlooker.has(Fault::GuideMarkIgnored) {
+                    true => 0,
+                    false => GUIDE_MARK,
+                };
+                let line = self.least(self.guide(guide), factors.w1, without);
                 no_line = line.is_none();
-                if no_line && self.has(Fault::NothingExpanded) {
+                if no_line && self.onlooker.has(Fault::NothingExpanded) {
                     return Some(End::NoRoute);
                 }
-                let strict = u64::from(self.has(Fault::GuideStrict));
+                let strict = u64::from(self.onlooker.has(Fault::GuideStrict));
                 choice = line.filter(|&(key, _)| 100 * key + strict <= factors.w2 * m);
             }
-            let (table, vertex) = match choice {
-                Some((_, vertex)) => {
-                    self.vertices[vertex].guide_mark = true;
-                    (guide as u32, vertex)
-                }
-                None => {
-                    self.vertices[anchor_choice].anchor_mark = true;
-                    (0, anchor_choice)
-                }
+            let (table, vertex, mark) = match choice {
+                Some((_, vertex)) => (guide, vertex, GUIDE_MARK),
+                None => (0, anchor_choice, ANCHOR_MARK),
             };
-            self.turns.push((table, vertex as u32));
-            observe(Event::Turn {
+            let [g, _, _, marks] = &mut self.vertices[vertex];
+            *marks |= mark;
+            let g = *g;
+            self.onlooker.observe(|| Event::Turn {
                 round,
                 turn: turns + 1,
-                table,
+                table: table as u32,
                 vertex: vertex as u32,
-                g: self.vertices[vertex].g,
+                g,
                 no_line,
             });
+            self.note_turn(table, vertex);
             self.expand(vertex);
-            if table > 0 || !self.has(Fault::GuideStays) {
-                guide = if guide >= guides { 1 } else { guide + 1 };
+            if table > 0 || !self.onlooker.has(Fault::GuideStays) {
+                guide = if guide >= self.guide_count {
+                    1
+                } else {
+                    guide + 1
+                };
             }
             self.next_guide = guide;
         }
     }
 
-    fn run(&mut self, schedule: &[u32], observe: &mut dyn FnMut(Event)) -> End {
-        for (index, pair) in schedule.chunks_exact(2).enumerate() {
-            let round = index as u32 + 1;
+    /// Traces the walk of a finished round and keeps it if it is the first
+    /// or strictly cheaper.
+    fn finish_round(&mut self, round: u32) {
+        let (mut cost, length) = self.trace();
+        let [goal_cost, ..] = self.vertices[self.goal];
+        if self.onlooker.has(Fault::CostOfGoal) {
+            cost = goal_cost;
+        }
+        let (turns, kept) = (self.turns, self.kept.map(|(cost, _)| cost));
+        self.onlooker.observe(|| {
+            let mut walk: Vec<u32> = traced(self.vertices, self.goal).collect();
+            walk.reverse();
+            Event::Finish {
+                round,
+                turns,
+                goal_cost,
+                traced: walk,
+                traced_cost: cost,
+                kept,
+            }
+        });
+        let better = |kept: u32| {
+            cost < kept
+                || self.onlooker.has(Fault::LastKept)
+                || self.onlooker.has(Fault::EqualKept) && cost == kept
+        };
+        if kept.is_none_or(better) {
+            self.keep(cost, length);
+        }
+        self.rounds += 1;
+    }
+
+    fn run(&mut self, schedule: &[u32]) -> End {
+        for (round, pair) in (1..).zip(schedule.chunks_exact(2)) {
             let factors = Factors {
                 w1: pair[0].into(),
                 w2: pair[1].into(),
             };
-            self.turns_before = self.turns.len() as u32;
-            if !(self.has(Fault::NoBegin) && self.spent()) {
+            self.turns_before = self.turns;
+            if !(self.onlooker.has(Fault::NoBegin) && self.spent()) {
                 self.begin_round();
             }
-            observe(Event::Begin { round });
-            match self.round(round, factors, observe) {
+            self.onlooker.observe(|| Event::Begin { round });
+            match self.round(round, factors) {
                 None => {}
-                Some(_) if self.finished > 0 => {
-                    if self.has(Fault::BoundOfCutRound) {
+                Some(_) if self.rounds > 0 => {
+                    if self.onlooker.has(Fault::BoundOfCutRound) {
                         self.bound = pair[0] * pair[1];
                     }
                     return End::Route;
                 }
                 Some(end) => return end,
             }
-            let (mut traced_cost, traced) = self.trace();
-            if self.has(Fault::CostOfGoal) {
-                traced_cost = self.vertices[self.goal].g;
-            }
-            observe(Event::Finish {
-                round,
-                turns: self.turns.len() as u32,
-                goal_cost: self.vertices[self.goal].g,
-                traced: traced.clone(),
-                traced_cost,
-                kept: self.kept.as_ref().map(|(cost, _)| *cost),
-            });
-            let fault = self.fault;
-            let better = |kept: u32| {
-                traced_cost < kept
-                    || fault == Some(Fault::LastKept)
-                    || fault == Some(Fault::EqualKept) && traced_cost == kept
-            };
-            if self.kept.as_ref().is_none_or(|(cost, _)| better(*cost)) {
-                self.kept = Some((traced_cost, traced));
-            }
-            self.finished += 1;
+            self.finish_round(round);
             self.bound = pair[0] * pair[1];
         }
         End::Route
@@ -487,21 +569,23 @@ fn bad_schedule(schedule: &[u32]) -> bool {
 }
 
 /// One planner call.
-#[allow(clippy::too_many_arguments)]
-pub fn plan(
-    bytes: &[u8],
-    start: u32,
-    goal: u32,
-    anchor: &[u32],
-    guides: &[u32],
-    guide_count: u32,
-    schedule: &[u32],
-    budget: u32,
-    route: &mut [u32],
-    log: &mut [u32],
-    work: &mut [u32],
+pub fn plan(request: &Request, memory: Memory) -> Answer {
+    plan_with(request, memory, Nobody)
+}
+
+/// One planner call whose events are handed to `observe`, with a fault if
+/// one is wanted.
+pub fn plan_observed(
+    request: &Request,
+    memory: Memory,
+    fault: Option<Fault>,
+    observe: &mut dyn FnMut(Event),
 ) -> Answer {
-    plan_observed(
+    plan_with(request, memory, Observer { fault, observe })
+}
+
+fn plan_with<O: Onlooker>(request: &Request, memory: Memory, onlooker: O) -> Answer {
+    let &Request {
         bytes,
         start,
         goal,
@@ -510,38 +594,13 @@ pub fn plan(
         guide_count,
         schedule,
         budget,
-        route,
-        log,
-        work,
-        None,
-        &mut |_| (),
-    )
-}
-
-/// One planner call whose events are handed to `observe`, with a fault if
-/// one is wanted.
-#[allow(clippy::too_many_arguments)]
-pub fn plan_observed(
-    bytes: &[u8],
-    start: u32,
-    goal: u32,
-    anchor: &[u32],
-    guides: &[u32],
-    guide_count: u32,
-    schedule: &[u32],
-    budget: u32,
-    route: &mut [u32],
-    log: &mut [u32],
-    work: &mut [u32],
-    fault: Option<Fault>,
-    observe: &mut dyn FnMut(Event),
-) -> Answer {
+    } = request;
+    let Memory { route, log, work } = memory;
     let refused = |number, position| Answer::Refused { number, position };
-    let graph = match Graph::read(bytes) {
-        Ok(graph) => graph,
+    let (vertices, edges) = match reference::check_plan(bytes) {
+        Ok((vertices, edges)) => (vertices as usize, edges as usize),
         Err(refusal) => return refused(refusal.number, refusal.position),
     };
-    let (vertices, edges) = (graph.vertices(), graph.edges());
     if start as usize >= vertices || goal as usize >= vertices {
         return refused(8, 0);
     }
@@ -554,19 +613,42 @@ pub fn plan_observed(
     if bad_schedule(schedule) {
         return refused(10, 0);
     }
-    if route.len() < vertices || work.len() < 5 * vertices + 1 + 2 * edges {
+    let needed = 5 * vertices + 1 + 2 * edges;
+    if route.len() < vertices || work.len() < needed {
         return refused(11, 0);
     }
     if anchor[goal as usize] != 0 {
         return refused(12, 0);
     }
-    let broken = (0..edges).find(|&edge| {
-        let (tail, head) = (graph.tails[edge] as usize, graph.heads[edge] as usize);
-        u64::from(anchor[tail]) > u64::from(graph.costs[edge]) + u64::from(anchor[head])
+    let mut broken = None;
+    for_each_edge(bytes, |edge, tail, head, cost| {
+        let (tail, head) = (anchor[tail as usize], anchor[head as usize]);
+        if broken.is_none() && u64::from(tail) > u64::from(cost) + u64::from(head) {
+            broken = Some(edge);
+        }
     });
     if let Some(edge) = broken {
         return refused(13, edge);
     }
+
+    // Work memory: first edges, heads, costs, then four words a vertex.
+    let (first, rest) = work[..needed].split_at_mut(vertices + 1);
+    let (heads, rest) = rest.split_at_mut(edges);
+    let (costs, rest) = rest.split_at_mut(edges);
+    let (state, _) = rest.as_chunks_mut();
+    // The first edge of a vertex is numbered by the edges of smaller tail.
+    let mut known = 0;
+    for_each_edge(bytes, |edge, tail, head, cost| {
+        while known <= tail as usize {
+            first[known] = edge as u32;
+            known += 1;
+        }
+        heads[edge] = head;
+        costs[edge] = cost;
+    });
+    first[known..].fill(edges as u32);
+    state.fill(NOT_REACHED);
+    state[start as usize] = [0, NONE, NONE, OPEN];
 
     let schedule = if schedule.is_empty() {
         &HOUSE_SCHEDULE
@@ -574,49 +656,34 @@ pub fn plan_observed(
         schedule
     };
     let mut search = Search {
-        graph: &graph,
+        first,
+        heads,
+        costs,
+        vertices: state,
         goal: goal as usize,
-        tables: std::iter::once(anchor)
-            .chain(guides.chunks_exact(vertices))
-            .collect(),
+        anchor,
+        guides,
+        guide_count: guide_count as usize,
         budget,
-        vertices: vec![Vertex::NOT_REACHED; vertices],
-        turns: Vec::new(),
-        kept: None,
-        finished: 0,
+        route: &mut route[..vertices],
+        log,
+        turns: 0,
+        rounds: 0,
         bound: 0,
+        kept: None,
         turns_before: 0,
         next_guide: 1,
-        fault,
+        onlooker,
     };
-    search.vertices[start as usize].g = 0;
-    search.vertices[start as usize].open = true;
-    let end = search.run(schedule, observe);
-
-    // Work memory: first edges, heads, costs, then four words a vertex.
-    let words = graph
-        .first
-        .iter()
-        .chain(&graph.heads)
-        .chain(&graph.costs)
-        .copied()
-        .chain(search.vertices.iter().flat_map(Vertex::words));
-    for (place, word) in work.iter_mut().zip(words) {
-        *place = word;
-    }
-    for (place, (table, vertex)) in log.iter_mut().zip(&search.turns) {
-        *place = vertex + 65_536 * table;
-    }
-    let turns = search.turns.len() as u32;
+    let end = search.run(schedule);
+    let turns = search.turns;
     match end {
         End::Route => {
-            let (cost, walk) = search.kept.expect("a finished round keeps a route");
-            route[..vertices].fill(NONE);
-            route[..walk.len()].copy_from_slice(&walk);
+            let (cost, length) = search.kept.expect("a finished round keeps a route");
             Answer::Route {
                 cost,
-                length: walk.len() as u32,
-                rounds: search.finished,
+                length,
+                rounds: search.rounds,
                 turns,
                 bound: search.bound,
             }
@@ -626,150 +693,7 @@ pub fn plan_observed(
     }
 }
 
-/// The most bytes of a bench job.
-pub const MOST_JOB_BYTES: usize = 32_768;
-/// The most vertices and edges of a bench job.
-pub const MOST_BENCH_VERTICES: usize = 256;
-pub const MOST_BENCH_EDGES: usize = 2_048;
-/// The bench program's log memory in words.
-pub const BENCH_LOG: usize = 8_192;
-
-/// The numbers of a bench job up to its tables.
-struct BenchJob<'a> {
-    plan: &'a [u8],
-    start: u32,
-    goal: u32,
-    budget: u32,
-    schedule: Vec<u32>,
-    guide_count: u32,
-    /// The bytes of the tables.
-    tables: &'a [u8],
-}
-
-/// A job's numbers, read from the front.
-struct Numbers<'a> {
-    bytes: &'a [u8],
-}
-
-impl<'a> Numbers<'a> {
-    fn number(&mut self) -> Option<u32> {
-        let (value, next) = reference::read_job_number(self.bytes, 0).ok()?;
-        self.bytes = &self.bytes[next..];
-        Some(value)
-    }
-
-    fn take(&mut self, length: u32) -> Option<&'a [u8]> {
-        let (taken, rest) = self.bytes.split_at_checked(length as usize)?;
-        self.bytes = rest;
-        Some(taken)
-    }
-}
-
-impl<'a> BenchJob<'a> {
-    /// `None` is refusal 14.
-    fn read(bytes: &'a [u8]) -> Option<BenchJob<'a>> {
-        if bytes.len() > MOST_JOB_BYTES {
-            return None;
-        }
-        let mut numbers = Numbers { bytes };
-        let plan_length = numbers.number()?;
-        let plan = numbers.take(plan_length)?;
-        let (start, goal, budget) = (numbers.number()?, numbers.number()?, numbers.number()?);
-        let rounds = numbers.number()?;
-        if rounds > 16 {
-            return None;
-        }
-        let schedule = (0..2 * rounds)
-            .map(|_| numbers.number())
-            .collect::<Option<Vec<u32>>>()?;
-        let guide_count = numbers.number()?;
-        if guide_count > 8 {
-            return None;
-        }
-        Some(BenchJob {
-            plan,
-            start,
-            goal,
-            budget,
-            schedule,
-            guide_count,
-            tables: numbers.bytes,
-        })
-    }
-
-    /// Anchor table and guide sheets of a plan in range; `None` is refusal 14.
-    fn read_tables(&self, vertices: usize, edges: usize) -> Option<(Vec<u32>, Vec<u32>)> {
-        if vertices > MOST_BENCH_VERTICES || edges > MOST_BENCH_EDGES {
-            return None;
-        }
-        let mut numbers = Numbers { bytes: self.tables };
-        let mut table =
-            |length: usize| -> Option<Vec<u32>> { (0..length).map(|_| numbers.number()).collect() };
-        let anchor = table(vertices)?;
-        let guides = table(vertices * self.guide_count as usize)?;
-        numbers.bytes.is_empty().then_some((anchor, guides))
-    }
-}
-
-/// What the bench program prints for a job's bytes.
-pub fn bench_text(bytes: &[u8]) -> String {
-    let refused = |number: u32, position: usize| format!("refused {number} at {position}\n");
-    let Some(job) = BenchJob::read(bytes) else {
-        return refused(14, 0);
-    };
-    let (vertices, edges) = match reference::check_plan(job.plan) {
-        Ok((vertices, edges)) => (vertices as usize, edges as usize),
-        Err(refusal) => return refused(refusal.number, refusal.position),
-    };
-    let Some((anchor, guides)) = job.read_tables(vertices, edges) else {
-        return refused(14, 0);
-    };
-    let mut route = vec![0; vertices];
-    let mut log = vec![0; BENCH_LOG];
-    let mut work = vec![0; 5 * vertices + 1 + 2 * edges];
-    let answer = plan(
-        job.plan,
-        job.start,
-        job.goal,
-        &anchor,
-        &guides,
-        job.guide_count,
-        &job.schedule,
-        job.budget,
-        &mut route,
-        &mut log,
-        &mut work,
-    );
-    let turns = match answer {
-        Answer::Refused { number, position } => return refused(number, position),
-        Answer::Route { turns, .. } | Answer::NoRoute { turns } | Answer::Unfinished { turns } => {
-            turns
-        }
-    };
-    let mut text = String::new();
-    for (index, word) in log.iter().take(turns as usize).enumerate() {
-        let (turn, table, vertex) = (index + 1, word / 65_536, word % 65_536);
-        text.push_str(&format!("turn {turn} table {table} place {vertex}\n"));
-    }
-    match answer {
-        Answer::Route {
-            cost,
-            length,
-            rounds,
-            turns,
-            bound,
-        } => {
-            text.push_str("route");
-            for vertex in &route[..length as usize] {
-                text.push_str(&format!(" {vertex}"));
-            }
-            text.push_str(&format!(
-                "\nend cost {cost} rounds {rounds} turns {turns} bound {bound}\n"
-            ));
-        }
-        Answer::NoRoute { turns } => text.push_str(&format!("no route turns {turns}\n")),
-        Answer::Unfinished { turns } => text.push_str(&format!("unfinished turns {turns}\n")),
-        Answer::Refused { .. } => unreachable!("a refusal is printed above"),
-    }
-    text
+/// Hands each edge of a checked plan to `take`.
+fn for_each_edge(bytes: &[u8], take: impl FnMut(usize, u32, u32, u32)) {
+    reference::walk_plan(bytes, take).expect("the plan is checked");
 }

@@ -96,7 +96,7 @@ pub fn write_plan_number(out: &mut [u8], at: usize, value: u32) -> Result<usize,
 /// Goes through a plan's bytes and hands each edge (number, tail, head, cost)
 /// to `take`; gives V and M.
 #[inline]
-fn walk_plan(
+pub fn walk_plan(
     bytes: &[u8],
     mut take: impl FnMut(usize, u32, u32, u32),
 ) -> Result<(u32, u32), Refusal> {

@@ -1,37 +1,26 @@
 //! The second planner's text for the bench program on seeded jobs.
 
-use secondcoop_tests::jobs::{self, SecondPlanner, GUARD};
-use secondcoop_tests::planner::{self, Answer};
-
-/// The kind of a text: a refusal's number, or 20 for a route, 21 for no
-/// route, 22 for unfinished.
-fn kind(text: &str) -> usize {
-    let last = text.lines().last().expect("a text has a line");
-    let words: Vec<&str> = last.split(' ').collect();
-    match words[..] {
-        ["refused", number, "at", _] => number.parse().unwrap(),
-        ["end", "cost", _, "rounds", _, "turns", _, "bound", _] => 20,
-        ["no", "route", "turns", _] => 21,
-        ["unfinished", "turns", _] => 22,
-        _ => panic!("{last}"),
-    }
-}
+use secondcoop_tests::bench_text;
+use secondcoop_tests::guarded::GUARD;
+use secondcoop_tests::jobs;
+use secondcoop_tests::planner::Answer;
+use secondcoop_tests::planners::{self, SecondPlanner, KINDS};
 
 #[test]
 fn every_ending_and_refusal_is_met() {
-    let mut counts = [0; 23];
+    let mut counts = [0; KINDS];
     jobs::bench_jobs(61, 6_000, &mut |bytes, known| {
-        let text = planner::bench_text(bytes);
+        let text = bench_text::bench_text(bytes);
         if let Some(known) = known {
             assert_eq!(text, known, "{bytes:02X?}");
         }
         assert!(text.ends_with('\n') && !text.contains("\n\n"));
-        counts[kind(&text)] += 1;
+        counts[planners::kind_of_text(&text)] += 1;
     });
     for (kind, &count) in counts.iter().enumerate() {
         match kind {
             // The bench program's job has tables of V numbers and memory.
-            0 | 9 | 11 | 15..=19 => assert_eq!(count, 0, "kind {kind}"),
+            9 | 11 => assert_eq!(count, 0, "kind {kind}"),
             _ => assert!(count >= 100, "kind {kind}: {count}"),
         }
     }
@@ -43,11 +32,11 @@ fn the_text_and_the_call_agree() {
     let mut count = 0;
     jobs::valid_jobs(62, 1_000, &mut |plan, job| {
         let mut job = job.clone();
-        job.log_room = planner::BENCH_LOG;
-        let outcome = job.run(&SecondPlanner, count);
-        let text = planner::bench_text(&job.bench_bytes());
+        job.log_room = bench_text::BENCH_LOG;
+        let outcome = planners::run(&SecondPlanner, &job, count);
+        let text = bench_text::bench_text(&job.bench_bytes());
         let lines: Vec<&str> = text.lines().collect();
-        let (turns, ending) = match outcome.answer {
+        let (turns, ending) = match outcome.answer() {
             Answer::Route {
                 cost,
                 length,
@@ -104,7 +93,7 @@ fn the_limit_of_job_bytes() {
     );
     let mut bytes = job.bench_bytes();
     assert_eq!(
-        planner::bench_text(&bytes),
+        bench_text::bench_text(&bytes),
         "turn 1 table 0 place 0\nno route turns 1\n"
     );
     bytes.resize(32_768, 0);
@@ -112,7 +101,7 @@ fn the_limit_of_job_bytes() {
     // before a job that is too long.
     bytes[2] = 0x80;
     bytes[3] = 0x00;
-    assert_eq!(planner::bench_text(&bytes), "refused 1 at 0\n");
+    assert_eq!(bench_text::bench_text(&bytes), "refused 1 at 0\n");
     bytes.push(0);
-    assert_eq!(planner::bench_text(&bytes), "refused 14 at 0\n");
+    assert_eq!(bench_text::bench_text(&bytes), "refused 14 at 0\n");
 }

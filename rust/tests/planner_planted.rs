@@ -1,40 +1,490 @@
-//! The seeded jobs tell a faulty planner from the second planner: each
-//! planted fault, the paper's shortcuts among them, must be found.
+//! The comparison finds planted faults: the seeded jobs, at a fraction of
+//! their number, tell each faulty planner from the second planner. The
+//! faults of the search, the paper's shortcuts among them, are planted in
+//! the search itself; those of refusals, memory and text are planted here.
 
-use secondcoop_tests::jobs::{self, FaultyPlanner, SecondPlanner};
-use secondcoop_tests::planner::{Fault, FAULTS};
+use secondcoop_tests::bench_text;
+use secondcoop_tests::jobs::{self, Job};
+use secondcoop_tests::planner::{self, Answer, Fault, Figures, Memory, Request, FAULTS, NONE};
+use secondcoop_tests::planners::{write_text, Comparison, FaultyPlanner, Planner, SecondPlanner};
+use secondcoop_tests::reference;
 
-/// How many of some jobs a faulty planner does otherwise, by answer or by
-/// memory.
-fn found(fault: Fault) -> (u64, u64) {
-    let faulty = FaultyPlanner(fault);
-    let (mut differing, mut count) = (0, 0);
-    jobs::valid_jobs(51, 4_000, &mut |_, job| {
-        let (left, right) = (job.run(&faulty, count), job.run(&SecondPlanner, count));
-        differing += u64::from(left != right);
-        count += 1;
-    });
-    (differing, count)
+/// What is wrong with a call or with the printed text.
+#[derive(Clone, Copy, Debug, PartialEq, Eq)]
+enum Border {
+    /// Nothing: the comparison must find nothing.
+    None,
+    /// No route and unfinished hand over a bound.
+    UnusedFigure,
+    /// The route's length counts edges.
+    LengthInEdges,
+    /// A refusal's number and position change places.
+    SwappedRefusal,
+    /// A broken rule of the anchor table has the position 0.
+    RulePosition,
+    /// Memory is looked at before the guides.
+    MemoryFirst,
+    /// The schedule is looked at before start and goal.
+    ScheduleFirst,
+    /// The anchor table is looked at before memory.
+    AnchorBeforeMemory,
+    /// The goal may be V.
+    GoalLimit,
+    /// Nine guides pass; the last is left aside.
+    NineGuides,
+    /// More numbers in the guide sheets than V each pass.
+    LongerGuides,
+    /// Seventeen rounds pass; the last is left aside.
+    SeventeenRounds,
+    /// A last factor of an odd schedule passes and is left aside.
+    OddSchedule,
+    /// A factor of 10,001 passes as 10,000.
+    FactorLimit,
+    /// W2 may rise.
+    RisingW2,
+    /// Work memory one word short passes.
+    WorkLimit,
+    /// Route memory one word short passes.
+    RouteLimit,
+    /// The anchor's number at the goal is not looked at.
+    GoalNumber,
+    /// An edge that keeps the anchor's rule with equality is refused.
+    RuleStrict,
+    /// The anchor's rule is computed in 32 bits.
+    RuleWraps,
+    /// The greatest budget is no limit, and others have one turn more.
+    BudgetPlusOne,
+    /// Words after the route keep their contents.
+    RouteRest,
+    /// Words past V get 4,294,967,295 as well.
+    RouteBeyond,
+    /// Route memory is filled although there is no route.
+    RouteWithout,
+    /// The log counts tables from 1.
+    LogTable,
+    /// A full log takes the last turn as its last word.
+    LogLast,
+    /// The word after the last turn is cleared.
+    LogBeyond,
+    /// The last of the first edge numbers is not written.
+    FirstEdges,
+    /// Guide and anchor mark change places.
+    SwappedMarks,
+    /// A vertex never expanded has 0 as its cost when last expanded.
+    NeverExpanded,
+    /// The start is its own predecessor.
+    StartPredecessor,
+    /// The word after the needed work memory is cleared.
+    WorkBeyond,
+    /// Work memory is written before the anchor table is looked at.
+    WorkAtRefusal,
+    /// The text has no last line end.
+    TextEnd,
+    /// The text says vertex.
+    TextWord,
+    /// The route line ends in a space.
+    TextSpace,
+    /// The bound is printed in hundredths.
+    TextBound,
+    /// The length is that of the bytes written.
+    TextLength,
+    /// Nothing is written if there is too little room.
+    TextAllOrNothing,
+    /// The byte after the text is cleared.
+    TextBeyond,
+    /// Refusal 14 has the length as its position.
+    JobPosition,
+    /// Start, goal and schedule are looked at before tables that are short.
+    TablesLast,
+    /// Bytes left over after the tables pass.
+    JobLeftOver,
+    /// 32,769 bytes pass.
+    JobLimit,
 }
 
-#[test]
-fn each_planted_fault_is_found() {
-    for fault in FAULTS {
-        let (differing, count) = found(fault);
-        println!("{fault:?}: {differing} of {count}");
-        assert!(differing >= 3, "{fault:?}: {differing} of {count}");
+const BORDER: [Border; 43] = [
+    Border::UnusedFigure,
+    Border::LengthInEdges,
+    Border::SwappedRefusal,
+    Border::RulePosition,
+    Border::MemoryFirst,
+    Border::ScheduleFirst,
+    Border::AnchorBeforeMemory,
+    Border::GoalLimit,
+    Border::NineGuides,
+    Border::LongerGuides,
+    Border::SeventeenRounds,
+    Border::OddSchedule,
+    Border::FactorLimit,
+    Border::RisingW2,
+    Border::WorkLimit,
+    Border::RouteLimit,
+    Border::GoalNumber,
+    Border::RuleStrict,
+    Border::RuleWraps,
+    Border::BudgetPlusOne,
+    Border::RouteRest,
+    Border::RouteBeyond,
+    Border::RouteWithout,
+    Border::LogTable,
+    Border::LogLast,
+    Border::LogBeyond,
+    Border::FirstEdges,
+    Border::SwappedMarks,
+    Border::NeverExpanded,
+    Border::StartPredecessor,
+    Border::WorkBeyond,
+    Border::WorkAtRefusal,
+    Border::TextEnd,
+    Border::TextWord,
+    Border::TextSpace,
+    Border::TextBound,
+    Border::TextLength,
+    Border::TextAllOrNothing,
+    Border::TextBeyond,
+    Border::JobPosition,
+    Border::TablesLast,
+    Border::JobLeftOver,
+    Border::JobLimit,
+];
+
+struct Faulty(Border);
+
+fn lend<'a>(route: &'a mut [u32], log: &'a mut [u32], work: &'a mut [u32]) -> Memory<'a> {
+    Memory { route, log, work }
+}
+
+impl Faulty {
+    /// The call with a request in which a fault is repaired, so that it
+    /// passes.
+    fn repaired(&self, request: &Request, memory: Memory) -> Option<Answer> {
+        let (vertices, edges) = reference::check_plan(request.bytes).ok()?;
+        let needed = 5 * vertices as usize + 1 + 2 * edges as usize;
+        let factors = request.schedule;
+        let room = (memory.route.len(), memory.work.len());
+        let mut list = Vec::new();
+        let mut other = *request;
+        match self.0 {
+            Border::GoalLimit if request.goal == vertices => other.goal = vertices - 1,
+            Border::NineGuides if request.guide_count == 9 => {
+                other.guide_count = 8;
+                other.guides = request.guides.get(..8 * vertices as usize)?;
+            }
+            Border::LongerGuides => {
+                let numbers = u64::from(request.guide_count) * u64::from(vertices);
+                other.guides = request.guides.get(..numbers as usize)?;
+            }
+            Border::SeventeenRounds if factors.len() == 34 => other.schedule = &factors[..32],
+            Border::OddSchedule if factors.len() % 2 == 1 => {
+                other.schedule = &factors[..factors.len() - 1];
+            }
+            Border::FactorLimit => {
+                list.extend(factors.iter().map(|&factor| match factor {
+                    10_001 => 10_000,
+                    factor => factor,
+                }));
+                other.schedule = &list;
+            }
+            Border::RisingW2 => {
+                list.extend(factors);
+                for index in (3..list.len()).step_by(2) {
+                    list[index] = list[index].min(list[index - 2]);
+                }
+                other.schedule = &list;
+            }
+            Border::GoalNumber if request.goal < vertices => {
+                list.extend(request.anchor);
+                *list.get_mut(request.goal as usize)? = 0;
+                other.anchor = &list;
+            }
+            Border::WorkLimit if room.1 == needed - 1 => {
+                let mut work = memory.work.to_vec();
+                work.push(0);
+                let lent = Memory {
+                    work: &mut work,
+                    ..memory
+                };
+                let answer = planner::plan(request, lent);
+                memory.work.copy_from_slice(&work[..needed - 1]);
+                return Some(answer);
+            }
+            Border::RouteLimit if room.0 == vertices as usize - 1 => {
+                let mut route = memory.route.to_vec();
+                route.push(0);
+                let lent = Memory {
+                    route: &mut route,
+                    ..memory
+                };
+                let answer = planner::plan(request, lent);
+                memory.route.copy_from_slice(&route[..room.0]);
+                return Some(answer);
+            }
+            Border::BudgetPlusOne => other.budget = request.budget.saturating_add(1),
+            _ => return None,
+        }
+        Some(planner::plan(&other, memory))
+    }
+
+    /// A refusal that comes too early, too late or wrongly.
+    fn refusal(&self, request: &Request, answer: Answer, room: (usize, usize)) -> Answer {
+        let refused = |number, position| Answer::Refused { number, position };
+        let number = match answer {
+            Answer::Refused { number, .. } => number,
+            _ => 0,
+        };
+        let Ok((vertices, edges)) = reference::check_plan(request.bytes) else {
+            return answer;
+        };
+        let (vertices, edges) = (vertices as usize, edges as usize);
+        let short = room.0 < vertices || room.1 < 5 * vertices + 1 + 2 * edges;
+        let anchor_at = |vertex: u32| request.anchor.get(vertex as usize).copied();
+        let first_edge = |broken: &dyn Fn(u32, u32, u32) -> bool| {
+            let mut first = None;
+            let _ = reference::walk_plan(request.bytes, |edge, tail, head, cost| {
+                let numbers = (anchor_at(tail), anchor_at(head));
+                if let (None, (Some(tail), Some(head))) = (first, numbers) {
+                    first = broken(tail, head, cost).then_some(edge);
+                }
+            });
+            first
+        };
+        match (self.0, number) {
+            (Border::RulePosition, 13) => refused(13, 0),
+            (Border::MemoryFirst, 9 | 10) if short => refused(11, 0),
+            (Border::ScheduleFirst, 8) if request.schedule.len() % 2 == 1 => refused(10, 0),
+            (Border::AnchorBeforeMemory, 11) if anchor_at(request.goal) != Some(0) => {
+                refused(12, 0)
+            }
+            (Border::RuleStrict, 0 | 13) => {
+                let equal = |tail: u32, head: u32, cost: u32| {
+                    u64::from(tail) >= u64::from(cost) + u64::from(head)
+                };
+                first_edge(&equal).map_or(answer, |edge| refused(13, edge))
+            }
+            (Border::RuleWraps, 0) => {
+                let wraps = |tail: u32, head: u32, cost: u32| tail > cost.wrapping_add(head);
+                first_edge(&wraps).map_or(answer, |edge| refused(13, edge))
+            }
+            _ => answer,
+        }
+    }
+}
+
+impl Planner for Faulty {
+    fn plan(&self, request: &Request, memory: Memory) -> Figures {
+        let Memory { route, log, work } = memory;
+        let room = (route.len(), work.len());
+        let before = (route.to_vec(), log.to_vec(), work.to_vec());
+        let mut answer = planner::plan(request, lend(route, log, work));
+        if let Some(other) = self.repaired(request, lend(route, log, work)) {
+            answer = other;
+        }
+        answer = self.refusal(request, answer, room);
+        if let Answer::Refused { .. } = answer {
+            route.copy_from_slice(&before.0);
+            log.copy_from_slice(&before.1);
+            work.copy_from_slice(&before.2);
+        }
+        let (vertices, edges) = reference::check_plan(request.bytes).unwrap_or((0, 0));
+        let (vertices, edges) = (vertices as usize, edges as usize);
+        let mut figures = answer.figures();
+        let [ending, number, position, _, length, _, turns, _] = figures;
+        let (length, turns) = (length as usize, turns as usize);
+        let places = vertices + 1 + 2 * edges;
+        match (self.0, ending) {
+            (Border::UnusedFigure, 1 | 2) => figures[7] = 10_000,
+            (Border::LengthInEdges, 0) => figures[4] -= 1,
+            (Border::SwappedRefusal, 3) => figures = [3, position, number, 0, 0, 0, 0, 0],
+            (Border::RouteRest, 0) => {
+                route[length..].copy_from_slice(&before.0[length..]);
+            }
+            (Border::RouteBeyond, 0) => route[vertices..].fill(NONE),
+            (Border::RouteWithout, 1 | 2) => route[..vertices].fill(NONE),
+            (Border::LogTable, 0..=2) => {
+                for word in log.iter_mut().take(turns) {
+                    *word += 65_536;
+                }
+            }
+            (Border::LogLast, 0..=2) if turns > log.len() => {
+                if let Some(word) = log.last_mut() {
+                    *word = request.start;
+                }
+            }
+            (Border::LogBeyond, 0..=2) => {
+                if let Some(word) = log.get_mut(turns) {
+                    *word = 0;
+                }
+            }
+            (Border::FirstEdges, 0..=2) => work[vertices] = before.2[vertices],
+            (Border::SwappedMarks, 0..=2) => {
+                for marks in work[places..][..4 * vertices].iter_mut().skip(3).step_by(4) {
+                    *marks = *marks & 12 | (*marks & 1) << 1 | (*marks & 2) >> 1;
+                }
+            }
+            (Border::NeverExpanded, 0..=2) => {
+                for expanded in work[places..][..4 * vertices].iter_mut().skip(1).step_by(4) {
+                    if *expanded == NONE {
+                        *expanded = 0;
+                    }
+                }
+            }
+            (Border::StartPredecessor, 0..=2) => {
+                work[places + 4 * request.start as usize + 2] = request.start;
+            }
+            (Border::WorkBeyond, 0..=2) => {
+                if let Some(word) = work.get_mut(places + 4 * vertices) {
+                    *word = 0;
+                }
+            }
+            (Border::WorkAtRefusal, 3) if number >= 12 => work[0] = 0,
+            _ => {}
+        }
+        figures
+    }
+
+    fn bench_text(&self, job: &[u8], text: &mut [u8]) -> usize {
+        let mut printed = bench_text::bench_text(job);
+        match self.0 {
+            Border::TextEnd => drop(printed.pop()),
+            Border::TextWord => printed = printed.replace("place", "vertex"),
+            Border::TextSpace => {
+                printed = printed.replace("\nend cost", " \nend cost");
+            }
+            Border::TextBound => {
+                if let Some((front, bound)) = printed.split_once(" bound ") {
+                    let bound: u32 = bound.trim_end().parse().expect("a bound is a number");
+                    printed = format!("{front} bound {}\n", bound / 100);
+                }
+            }
+            Border::TextAllOrNothing if printed.len() > text.len() => return printed.len(),
+            Border::JobPosition if printed == "refused 14 at 0\n" => {
+                printed = format!("refused 14 at {}\n", job.len());
+            }
+            Border::TablesLast if printed == "refused 14 at 0\n" => {
+                // Numbers 0 in place of those that are missing.
+                let longer = (1..=40).map(|missing| [job, &vec![0; missing]].concat());
+                let other = longer
+                    .map(|longer| bench_text::bench_text(&longer))
+                    .find(|other| {
+                        other.starts_with("refused 8 ") || other.starts_with("refused 10 ")
+                    });
+                printed = other.unwrap_or(printed);
+            }
+            Border::JobLeftOver if printed == "refused 14 at 0\n" && !job.is_empty() => {
+                let shorter = bench_text::bench_text(&job[..job.len() - 1]);
+                if !shorter.starts_with("refused 14") {
+                    printed = shorter;
+                }
+            }
+            Border::JobLimit if job.len() == 32_769 => {
+                printed = bench_text::bench_text(&job[..32_768]);
+            }
+            _ => {}
+        }
+        let length = write_text(&printed, text);
+        match self.0 {
+            Border::TextLength => length.min(text.len()),
+            Border::TextBeyond => {
+                if let Some(byte) = text.get_mut(length) {
+                    *byte = 0;
+                }
+                length
+            }
+            _ => length,
+        }
+    }
+}
+
+/// Differences that are enough: what comes after them is left out.
+const ENOUGH: u64 = 3;
+
+/// Seeded jobs and texts, a fraction of those that the library gets.
+struct Seeded {
+    jobs: Vec<Job>,
+    texts: Vec<Vec<u8>>,
+}
+
+impl Seeded {
+    fn new() -> Seeded {
+        let (mut list, mut texts) = (Vec::new(), Vec::new());
+        jobs::valid_jobs(51, 3_000, &mut |_, job| list.push(job.clone()));
+        jobs::damaged_jobs(52, 6_500, &mut |job, _| list.push(job.clone()));
+        jobs::bench_jobs(53, 1_000, &mut |bytes, _| texts.push(bytes.to_vec()));
+        Seeded { jobs: list, texts }
+    }
+
+    /// How many jobs tell a planner from the second planner, up to enough,
+    /// and how many were compared. What is known from a job's making is left
+    /// aside: the comparison alone must find the fault.
+    fn differing_jobs(&self, planner: &dyn Planner) -> (u64, u64) {
+        let mut comparison = Comparison::new(planner, &SecondPlanner);
+        let differing = self
+            .jobs
+            .iter()
+            .filter(|job| comparison.job_differs(job, None).is_some())
+            .take(ENOUGH as usize)
+            .count();
+        (differing as u64, comparison.jobs)
+    }
+
+    /// As above, for texts.
+    fn differing_texts(&self, planner: &dyn Planner) -> (u64, u64) {
+        let mut comparison = Comparison::new(planner, &SecondPlanner);
+        let differing = self
+            .texts
+            .iter()
+            .filter(|bytes| comparison.text_differs(bytes, None).is_some())
+            .take(ENOUGH as usize)
+            .count();
+        (differing as u64, comparison.texts)
     }
 }
 
 #[test]
-fn the_second_planner_does_not_differ_from_itself() {
-    let mut count = 0;
-    jobs::valid_jobs(51, 1_000, &mut |_, job| {
-        assert_eq!(
-            job.run(&SecondPlanner, count),
-            job.run(&SecondPlanner, count)
-        );
-        count += 1;
-    });
-    assert!(count > 3_000);
+fn each_fault_of_the_search_is_found() {
+    let seeded = Seeded::new();
+    for fault in FAULTS {
+        let planner = FaultyPlanner(fault);
+        let (differing, jobs) = seeded.differing_jobs(&planner);
+        println!("{fault:?}: {differing} in {jobs} jobs");
+        assert_eq!(differing, ENOUGH, "{fault:?} in {jobs} jobs");
+        // Work memory alone shows some of them, or almost alone.
+        if !matches!(
+            fault,
+            Fault::Forgotten | Fault::AnchorMarksStay | Fault::ExpandedForgotten | Fault::NoBegin
+        ) {
+            let (differing, texts) = seeded.differing_texts(&planner);
+            println!("{fault:?}: {differing} in {texts} texts");
+            assert_eq!(differing, ENOUGH, "{fault:?} in {texts} texts");
+        }
+    }
+}
+
+#[test]
+fn each_fault_of_refusals_memory_and_text_is_found() {
+    let seeded = Seeded::new();
+    for fault in BORDER {
+        let planner = Faulty(fault);
+        let (differing, texts) = seeded.differing_texts(&planner);
+        if differing == ENOUGH {
+            println!("{fault:?}: {differing} in {texts} texts");
+            continue;
+        }
+        let (differing, jobs) = seeded.differing_jobs(&planner);
+        println!("{fault:?}: {differing} in {jobs} jobs");
+        assert_eq!(differing, ENOUGH, "{fault:?} in {jobs} jobs");
+    }
+}
+
+#[test]
+fn nothing_is_found_where_nothing_is_planted() {
+    let seeded = Seeded::new();
+    for planner in [&SecondPlanner as &dyn Planner, &Faulty(Border::None)] {
+        let (differing, jobs) = seeded.differing_jobs(planner);
+        assert_eq!(differing, 0);
+        assert!(jobs > 15_000, "{jobs} jobs");
+        let (differing, texts) = seeded.differing_texts(planner);
+        assert_eq!(differing, 0);
+        assert!(texts > 4_000, "{texts} texts");
+    }
 }

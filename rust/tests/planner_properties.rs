@@ -1,12 +1,17 @@
-//! The second planner on seeded jobs: demand 3 and the properties that an
-//! independent Dijkstra search decides.
+//! The library and the second planner on seeded jobs: demand 3 and the
+//! properties that an independent Dijkstra search decides. Costs and
+//! expansions come from the second planner's events.
 
 use secondcoop_tests::dijkstra;
 use secondcoop_tests::events::Events;
 use secondcoop_tests::generate::Plan;
-use secondcoop_tests::jobs::{self, Job, SecondPlanner, GUARD};
+use secondcoop_tests::guarded::GUARD;
+use secondcoop_tests::jobs::{self, Job};
 use secondcoop_tests::planner::{self, Answer, Event, NONE};
+use secondcoop_tests::planners::{self, Library, Planner, SecondPlanner};
 use secondcoop_tests::random::Random;
+
+const BOTH: [&dyn Planner; 2] = [&Library, &SecondPlanner];
 
 /// The sum of a walk's edges; each must be an edge of the plan.
 fn walk_cost(plan: &Plan, walk: &[u32]) -> u64 {
@@ -31,15 +36,14 @@ struct Met {
 }
 
 /// One valid job: answer, route, bound and the expansions of demand 3.
-fn check(plan: &Plan, job: &Job, met: &mut Met) {
-    let outcome = job.run(&SecondPlanner, 5);
+fn check(planner: &dyn Planner, plan: &Plan, job: &Job, met: &mut Met) {
+    let outcome = planners::run(planner, job, 5);
     let (answer, events) = job.events();
-    assert_eq!(answer, outcome.answer);
+    assert_eq!(outcome.figures, answer.figures());
     let least = dijkstra::distances_from(plan, job.start)[job.goal as usize];
     let vertices = plan.vertices as usize;
-    let untouched: Vec<u32> = (0..outcome.route.len())
-        .map(|index| jobs::pattern(5, 0, index))
-        .collect();
+    let [route_before, log_before, work_before] = planners::lent_memory(job, 5);
+    let untouched = route_before.all;
     let turns = match answer {
         Answer::Route {
             cost,
@@ -143,7 +147,7 @@ fn check(plan: &Plan, job: &Job, met: &mut Met) {
     let logged = (turns as usize).min(job.log_room);
     for (index, &word) in outcome.log.iter().enumerate() {
         if !(GUARD..GUARD + logged).contains(&index) {
-            assert_eq!(word, jobs::pattern(5, 1, index));
+            assert_eq!(word, log_before.all[index]);
         }
     }
 
@@ -152,7 +156,7 @@ fn check(plan: &Plan, job: &Job, met: &mut Met) {
     let work = &outcome.work[GUARD..GUARD + needed];
     for (index, &word) in outcome.work.iter().enumerate() {
         if !(GUARD..GUARD + needed).contains(&index) {
-            assert_eq!(word, jobs::pattern(5, 2, index));
+            assert_eq!(word, work_before.all[index]);
         }
     }
     for (vertex, &first) in work[..=vertices].iter().enumerate() {
@@ -187,58 +191,66 @@ fn check(plan: &Plan, job: &Job, met: &mut Met) {
 
 #[test]
 fn demand_3_and_dijkstra() {
-    let mut met = Met::default();
-    let mut count = 0;
-    jobs::valid_jobs(41, 12_000, &mut |plan, job| {
-        check(plan, job, &mut met);
-        count += 1;
-    });
-    assert!(count >= 40_000, "{count} jobs");
-    assert!(met.routes >= 15_000, "{} routes", met.routes);
-    assert!(met.optimal_rounds >= 3_000, "{}", met.optimal_rounds);
-    assert!(met.no_routes >= 2_000, "{}", met.no_routes);
-    assert!(met.unfinished >= 4_000, "{}", met.unfinished);
-    assert!(met.twice >= 500, "{}", met.twice);
+    for planner in BOTH {
+        let mut met = Met::default();
+        let mut count = 0;
+        jobs::valid_jobs(41, 12_000, &mut |plan, job| {
+            check(planner, plan, job, &mut met);
+            count += 1;
+        });
+        println!(
+            "{count} jobs: {} routes, {} of them after a finished 100/100 round, {} without a \
+             route, {} unfinished, {} vertices twice in a round",
+            met.routes, met.optimal_rounds, met.no_routes, met.unfinished, met.twice
+        );
+        assert!(count >= 40_000, "{count} jobs");
+        assert!(met.routes >= 15_000, "{} routes", met.routes);
+        assert!(met.optimal_rounds >= 3_000, "{}", met.optimal_rounds);
+        assert!(met.no_routes >= 2_000, "{}", met.no_routes);
+        assert!(met.unfinished >= 4_000, "{}", met.unfinished);
+        assert!(met.twice >= 500, "{}", met.twice);
+    }
 }
 
 /// With budget enough, no route exactly where there is none.
 #[test]
 fn no_route_exactly_where_there_is_none() {
-    let mut random = Random::new(42);
-    let mut counts = [0; 2];
-    for index in 0..8_000 {
-        let shape = jobs::SHAPES[index % jobs::SHAPES.len()];
-        let (plan, job) = jobs::random_job(&mut random, shape);
-        let reached = dijkstra::distances_from(&plan, job.start)[job.goal as usize].is_some();
-        let (answer, _) = job.events();
-        match answer {
-            Answer::Route { .. } => assert!(reached),
-            Answer::NoRoute { .. } => assert!(!reached),
-            _ => panic!("{answer:?}"),
+    for planner in BOTH {
+        let mut random = Random::new(42);
+        let mut counts = [0; 2];
+        for index in 0..8_000 {
+            let shape = jobs::SHAPES[index % jobs::SHAPES.len()];
+            let (plan, job) = jobs::random_job(&mut random, shape);
+            let reached = dijkstra::distances_from(&plan, job.start)[job.goal as usize].is_some();
+            match planners::run(planner, &job, 6).answer() {
+                Answer::Route { .. } => assert!(reached),
+                Answer::NoRoute { .. } => assert!(!reached),
+                answer => panic!("{answer:?}"),
+            }
+            counts[usize::from(reached)] += 1;
         }
-        counts[usize::from(reached)] += 1;
+        assert!(counts[0] > 800 && counts[1] > 800, "{counts:?}");
     }
-    assert!(counts[0] > 800 && counts[1] > 800, "{counts:?}");
 }
 
 #[test]
 fn damaged_jobs_are_refused() {
-    let mut counts = [0; 14];
-    jobs::damaged_jobs(43, 26_000, &mut |job, known| {
-        let outcome = job.run(&SecondPlanner, 9);
-        assert_eq!(outcome.answer, known, "{job:?}");
-        let memories = [&outcome.route, &outcome.log, &outcome.work];
-        for (number, memory) in (0..).zip(memories) {
-            for (index, &word) in memory.iter().enumerate() {
-                assert_eq!(word, jobs::pattern(9, number, index));
+    for planner in BOTH {
+        let mut counts = [0; 14];
+        jobs::damaged_jobs(43, 26_000, &mut |job, known| {
+            let outcome = planners::run(planner, job, 9);
+            assert_eq!(outcome.figures, known.figures(), "{job:?}");
+            let [route, log, work] = planners::lent_memory(job, 9);
+            assert_eq!(outcome.route, route.all);
+            assert_eq!(outcome.log, log.all);
+            assert_eq!(outcome.work, work.all);
+            if let Answer::Refused { number, .. } = known {
+                counts[number as usize] += 1;
             }
+        });
+        for (number, &count) in counts.iter().enumerate().skip(1) {
+            assert!(count >= 800, "refusal {number}: {count}");
         }
-        if let Answer::Refused { number, .. } = known {
-            counts[number as usize] += 1;
-        }
-    });
-    for (number, &count) in counts.iter().enumerate().skip(1) {
-        assert!(count >= 800, "refusal {number}: {count}");
     }
 }
 
@@ -259,14 +271,16 @@ fn rare_events() {
 
 #[test]
 fn jobs_at_the_limits() {
-    let mut met = Met::default();
-    let mut costs = Vec::new();
-    jobs::large_jobs(45, &mut |plan, job| {
-        check(plan, job, &mut met);
-        if let (Answer::Route { cost, .. }, _) = job.events() {
-            costs.push(cost);
-        }
-    });
-    assert_eq!(costs[..4], [4_095_000_000; 4]);
-    assert!(met.routes >= 5);
+    for planner in BOTH {
+        let mut met = Met::default();
+        let mut costs = Vec::new();
+        jobs::large_jobs(45, &mut |plan, job| {
+            check(planner, plan, job, &mut met);
+            if let Answer::Route { cost, .. } = planners::run(planner, job, 7).answer() {
+                costs.push(cost);
+            }
+        });
+        assert_eq!(costs[..4], [4_095_000_000; 4]);
+        assert!(met.routes >= 5);
+    }
 }

@@ -1,0 +1,61 @@
+/*
+ * Plans job A of document 01 and prints answer and route. The exit status is
+ * 0 only if the answer is the paper's.
+ *
+ *   cc -std=c11 -Wall -Wextra -Werror -Iinclude examples/plan_job_a.c target/staticlib/libffi.a
+ */
+#include <inttypes.h>
+#include <stdio.h>
+#include <string.h>
+
+#include "secondcoop.h"
+
+enum { PLACES = 4, LANES = 4, LENGTH = 4 };
+
+int main(void)
+{
+    static const uint8_t plan[] = {4, 4, 0, 1, 1, 0, 2, 4, 1, 2, 2, 1, 3, 3};
+    static const uint32_t anchor[PLACES] = {6, 5, 3, 0};
+    static const uint32_t guide[PLACES] = {0, 9, 0, 0};
+    static const uint32_t schedule[] = {200, 200, 100, 100};
+    uint32_t route[PLACES];
+    uint32_t log[16];
+    uint32_t work[5 * PLACES + 1 + 2 * LANES];
+    uint64_t figures[8];
+
+    secondcoop_plan(plan, sizeof plan, 0, 3, anchor, PLACES, guide, PLACES, 1,
+                    schedule, sizeof schedule / sizeof schedule[0], 100,
+                    route, PLACES, log, sizeof log / sizeof log[0],
+                    work, sizeof work / sizeof work[0], figures);
+
+    switch (figures[SECONDCOOP_PLAN_ENDING]) {
+    case SECONDCOOP_ROUTE:
+        printf("route");
+        for (uint64_t i = 0; i < figures[SECONDCOOP_PLAN_LENGTH]; i++)
+            printf(" %" PRIu32, route[i]);
+        printf("\nend cost %" PRIu64 " rounds %" PRIu64 " turns %" PRIu64
+               " bound %" PRIu64 "\n",
+               figures[SECONDCOOP_PLAN_COST], figures[SECONDCOOP_PLAN_ROUNDS],
+               figures[SECONDCOOP_PLAN_TURNS], figures[SECONDCOOP_PLAN_BOUND]);
+        break;
+    case SECONDCOOP_NO_ROUTE:
+        printf("no route turns %" PRIu64 "\n", figures[SECONDCOOP_PLAN_TURNS]);
+        break;
+    case SECONDCOOP_UNFINISHED:
+        printf("unfinished turns %" PRIu64 "\n", figures[SECONDCOOP_PLAN_TURNS]);
+        break;
+    default:
+        printf("refused %" PRIu64 " at %" PRIu64 "\n",
+               figures[SECONDCOOP_PLAN_REFUSAL], figures[SECONDCOOP_PLAN_POSITION]);
+    }
+
+    /* The paper's answer: cost 6, two rounds, four turns, bound 10000. */
+    static const uint64_t answer[8] = {SECONDCOOP_ROUTE, 0, 0, 6, LENGTH, 2, 4, 10000};
+    static const uint32_t places[LENGTH] = {0, 1, 2, 3};
+    static const uint32_t turns[] = {65536, 65538, 1, 65538};
+    if (memcmp(figures, answer, sizeof answer) != 0)
+        return 1;
+    if (memcmp(route, places, sizeof places) != 0)
+        return 1;
+    return memcmp(log, turns, sizeof turns) != 0;
+}

@@ -1,0 +1,161 @@
+//! The bench program's text, written from the paper alone: a job is read
+//! from its bytes, planned, and its turns and ending are printed.
+
+use crate::planner::{self, Answer, Memory, Request};
+use crate::reference;
+
+/// The most bytes of a bench job.
+pub const MOST_JOB_BYTES: usize = 32_768;
+/// The most vertices and edges of a bench job.
+pub const MOST_BENCH_VERTICES: usize = 256;
+pub const MOST_BENCH_EDGES: usize = 2_048;
+/// The bench program's log memory in words.
+pub const BENCH_LOG: usize = 8_192;
+
+/// The numbers of a bench job up to its tables.
+struct BenchJob<'a> {
+    plan: &'a [u8],
+    start: u32,
+    goal: u32,
+    budget: u32,
+    schedule: Vec<u32>,
+    guide_count: u32,
+    /// The bytes of the tables.
+    tables: &'a [u8],
+}
+
+/// A job's numbers, read from the front.
+struct Numbers<'a> {
+    bytes: &'a [u8],
+}
+
+impl<'a> Numbers<'a> {
+    fn number(&mut self) -> Option<u32> {
+        let (value, next) = reference::read_job_number(self.bytes, 0).ok()?;
+        self.bytes = &self.bytes[next..];
+        Some(value)
+    }
+
+    fn take(&mut self, length: u32) -> Option<&'a [u8]> {
+        let (taken, rest) = self.bytes.split_at_checked(length as usize)?;
+        self.bytes = rest;
+        Some(taken)
+    }
+}
+
+impl<'a> BenchJob<'a> {
+    /// `None` is refusal 14.
+    fn read(bytes: &'a [u8]) -> Option<BenchJob<'a>> {
+        if bytes.len() > MOST_JOB_BYTES {
+            return None;
+        }
+        let mut numbers = Numbers { bytes };
+        let plan_length = numbers.number()?;
+        let plan = numbers.take(plan_length)?;
+        let (start, goal, budget) = (numbers.number()?, numbers.number()?, numbers.number()?);
+        let rounds = numbers.number()?;
+        if rounds > 16 {
+            return None;
+        }
+        let schedule = (0..2 * rounds)
+            .map(|_| numbers.number())
+            .collect::<Option<Vec<u32>>>()?;
+        let guide_count = numbers.number()?;
+        if guide_count > 8 {
+            return None;
+        }
+        Some(BenchJob {
+            plan,
+            start,
+            goal,
+            budget,
+            schedule,
+            guide_count,
+            tables: numbers.bytes,
+        })
+    }
+
+    /// Anchor table and guide sheets of a plan in range; `None` is refusal 14.
+    fn read_tables(&self, vertices: usize, edges: usize) -> Option<(Vec<u32>, Vec<u32>)> {
+        if vertices > MOST_BENCH_VERTICES || edges > MOST_BENCH_EDGES {
+            return None;
+        }
+        let mut numbers = Numbers { bytes: self.tables };
+        let mut table =
+            |length: usize| -> Option<Vec<u32>> { (0..length).map(|_| numbers.number()).collect() };
+        let anchor = table(vertices)?;
+        let guides = table(vertices * self.guide_count as usize)?;
+        numbers.bytes.is_empty().then_some((anchor, guides))
+    }
+}
+
+/// What the bench program prints for a job's bytes.
+pub fn bench_text(bytes: &[u8]) -> String {
+    bench_text_by(bytes, planner::plan)
+}
+
+/// What the bench program prints for a job's bytes with a planner's answers.
+pub fn bench_text_by(bytes: &[u8], plan: impl FnOnce(&Request, Memory) -> Answer) -> String {
+    let refused = |number: u32, position: usize| format!("refused {number} at {position}\n");
+    let Some(job) = BenchJob::read(bytes) else {
+        return refused(14, 0);
+    };
+    let (vertices, edges) = match reference::check_plan(job.plan) {
+        Ok((vertices, edges)) => (vertices as usize, edges as usize),
+        Err(refusal) => return refused(refusal.number, refusal.position),
+    };
+    let Some((anchor, guides)) = job.read_tables(vertices, edges) else {
+        return refused(14, 0);
+    };
+    let request = Request {
+        bytes: job.plan,
+        start: job.start,
+        goal: job.goal,
+        anchor: &anchor,
+        guides: &guides,
+        guide_count: job.guide_count,
+        schedule: &job.schedule,
+        budget: job.budget,
+    };
+    let mut route = vec![0; vertices];
+    let mut log = vec![0; BENCH_LOG];
+    let mut work = vec![0; 5 * vertices + 1 + 2 * edges];
+    let memory = Memory {
+        route: &mut route,
+        log: &mut log,
+        work: &mut work,
+    };
+    let answer = plan(&request, memory);
+    let turns = match answer {
+        Answer::Refused { number, position } => return refused(number, position),
+        Answer::Route { turns, .. } | Answer::NoRoute { turns } | Answer::Unfinished { turns } => {
+            turns
+        }
+    };
+    let mut text = String::new();
+    for (index, word) in log.iter().take(turns as usize).enumerate() {
+        let (turn, table, vertex) = (index + 1, word / 65_536, word % 65_536);
+        text.push_str(&format!("turn {turn} table {table} place {vertex}\n"));
+    }
+    match answer {
+        Answer::Route {
+            cost,
+            length,
+            rounds,
+            turns,
+            bound,
+        } => {
+            text.push_str("route");
+            for vertex in &route[..length as usize] {
+                text.push_str(&format!(" {vertex}"));
+            }
+            text.push_str(&format!(
+                "\nend cost {cost} rounds {rounds} turns {turns} bound {bound}\n"
+            ));
+        }
+        Answer::NoRoute { turns } => text.push_str(&format!("no route turns {turns}\n")),
+        Answer::Unfinished { turns } => text.push_str(&format!("unfinished turns {turns}\n")),
+        Answer::Refused { .. } => unreachable!("a refusal is printed above"),
+    }
+    text
+}

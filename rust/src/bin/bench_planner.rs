@@ -1,0 +1,224 @@
+//! Times whole planner calls of the library under test against the second
+//! planner, which finds its least keys by the same scans. A program, not a
+//! test: its figures are for reading.
+
+use std::hint::black_box;
+
+use secondcoop_tests::clock::thread_time;
+use secondcoop_tests::dijkstra;
+use secondcoop_tests::generate::Plan;
+use secondcoop_tests::jobs::Job;
+use secondcoop_tests::planner::{Figures, Memory};
+use secondcoop_tests::planners::{Library, Planner, SecondPlanner};
+use secondcoop_tests::random::Random;
+
+/// Runs of each side, alternating; the median counts.
+const RUNS: usize = 15;
+/// A run has as many calls as take about so many nanoseconds, one at least.
+const RUN_TIME: f64 = 50_000_000.0;
+
+/// A floor of width × height vertices, which closes round at its edges; from
+/// each vertex edges lead to its eight neighbours.
+fn floor(random: &mut Random, width: u32, height: u32) -> Plan {
+    let mut plan = Plan {
+        vertices: width * height,
+        tails: Vec::new(),
+        heads: Vec::new(),
+        costs: Vec::new(),
+    };
+    for tail in 0..plan.vertices {
+        let (x, y) = (tail % width, tail / width);
+        let mut heads = Vec::new();
+        for (dx, dy) in (0..9).map(|step| (step % 3, step / 3)) {
+            let to = ((x + width + dx - 1) % width, (y + height + dy - 1) % height);
+            heads.push(to.1 * width + to.0);
+        }
+        heads.retain(|&head| head != tail);
+        heads.sort_unstable();
+        for head in heads {
+            plan.tails.push(tail);
+            plan.heads.push(head);
+            plan.costs.push(random.range32(100, 1_000));
+        }
+    }
+    plan
+}
+
+/// How the guide sheets are made.
+#[derive(Clone, Copy)]
+enum Sheets {
+    /// Near the true distances, from 80 to 130 hundredths of them.
+    Sensible,
+    /// Two each of: what is far comes first, any numbers, the greatest
+    /// number everywhere, 0 everywhere.
+    Hostile,
+}
+
+/// A job across a floor: eight guides, the house schedule, an anchor table
+/// of 60 hundredths of the true distances, and turns without end.
+fn job(seed: u64, width: u32, height: u32, sheets: Sheets) -> Job {
+    let mut random = Random::new(seed);
+    let plan = floor(&mut random, width, height);
+    let (start, goal) = (0, width / 2 + height / 2 * width);
+    let distances: Vec<u32> = dijkstra::distances_to(&plan, goal)
+        .into_iter()
+        .map(|distance| distance.expect("all vertices have a walk to the goal") as u32)
+        .collect();
+    let farthest = distances.iter().copied().max().unwrap_or(0);
+    let anchor = distances.iter().map(|&d| d * 60 / 100).collect();
+    let mut guides: Vec<u32> = Vec::new();
+    for guide in 0..8 {
+        let sheet = |d: u32| match (sheets, guide % 4) {
+            (Sheets::Sensible, _) => d * random.range32(80, 130) / 100,
+            (Sheets::Hostile, 0) => (farthest - d) / 10,
+            (Sheets::Hostile, 1) => random.range32(0, farthest / 10),
+            (Sheets::Hostile, 2) => u32::MAX,
+            (Sheets::Hostile, _) => 0,
+        };
+        guides.extend(distances.iter().copied().map(sheet));
+    }
+    let mut job = Job::new(&plan, start, goal, anchor, guides, 8, vec![], u32::MAX);
+    job.log_room = 2 * 6 * plan.vertices as usize;
+    job
+}
+
+/// Memory that both sides are lent.
+struct Lent {
+    route: Vec<u32>,
+    log: Vec<u32>,
+    work: Vec<u32>,
+}
+
+impl Lent {
+    fn of(job: &Job) -> Lent {
+        Lent {
+            route: vec![0; job.route_room],
+            log: vec![0; job.log_room],
+            work: vec![0; job.work_room],
+        }
+    }
+
+    fn call(&mut self, planner: &dyn Planner, job: &Job) -> Figures {
+        let memory = Memory {
+            route: &mut self.route,
+            log: &mut self.log,
+            work: &mut self.work,
+        };
+        planner.plan(black_box(&job.request()), memory)
+    }
+}
+
+fn median(mut list: Vec<f64>) -> f64 {
+    list.sort_by(f64::total_cmp);
+    list[list.len() / 2]
+}
+
+/// Nanoseconds of a call, and the library's time over the second planner's:
+/// medians of alternating runs.
+struct Times {
+    library: f64,
+    second: f64,
+    ratio: f64,
+}
+
+fn times(mut call: impl FnMut(&dyn Planner)) -> Times {
+    let sides: [&dyn Planner; 2] = [&Library, &SecondPlanner];
+    let mut time = |side: usize, calls: u32| {
+        let begin = thread_time();
+        for _ in 0..calls {
+            call(sides[side]);
+        }
+        (thread_time() - begin) as f64 / f64::from(calls)
+    };
+    // The first calls only warm up.
+    let once = time(0, 1).max(time(1, 1));
+    let calls = (RUN_TIME / once).clamp(1.0, 10_000.0) as u32;
+    let mut runs = Vec::new();
+    for run in 0..RUNS {
+        let mut pair = [0.0; 2];
+        for side in [run % 2, (run + 1) % 2] {
+            pair[side] = time(side, calls);
+        }
+        runs.push(pair);
+    }
+    Times {
+        library: median(runs.iter().map(|[library, _]| *library).collect()),
+        second: median(runs.iter().map(|[_, second]| *second).collect()),
+        ratio: median(
+            runs.iter()
+                .map(|[library, second]| library / second)
+                .collect(),
+        ),
+    }
+}
+
+/// Prints a line; gives the nanoseconds of a turn.
+fn print_line(name: &str, job: &Job, rounds: u64, turns: u64, times: &Times) -> [f64; 2] {
+    let turn = [times.library, times.second].map(|time| time / turns as f64);
+    println!(
+        "{name:<22} {:>6} {rounds:>6} {turns:>7} {:>10.3} {:>10.3} {:>8.0} {:>8.0} {:>7.3}",
+        job.anchor.len(),
+        times.library / 1e6,
+        times.second / 1e6,
+        turn[0],
+        turn[1],
+        times.ratio,
+    );
+    turn
+}
+
+/// Times a job's call; gives the nanoseconds of a turn.
+fn compare(name: &str, job: &Job) -> [f64; 2] {
+    let mut lent = Lent::of(job);
+    let figures = lent.call(&SecondPlanner, job);
+    let mut other = Lent::of(job);
+    assert_eq!(other.call(&Library, job), figures);
+    assert!(other.route == lent.route && other.log == lent.log && other.work == lent.work);
+    let [_, _, _, _, _, rounds, turns, _] = figures;
+    let times = times(|side| assert_eq!(black_box(lent.call(side, job)), figures));
+    print_line(name, job, rounds, turns, &times)
+}
+
+/// Times the bench program's text of a job.
+fn compare_text(name: &str, job: &Job) {
+    let bytes = job.bench_bytes();
+    let [_, _, _, _, _, rounds, turns, _] = Lent::of(job).call(&SecondPlanner, job);
+    let mut text = vec![0; 300_000];
+    let length = SecondPlanner.bench_text(&bytes, &mut text);
+    let mut other = vec![0; 300_000];
+    assert_eq!(Library.bench_text(&bytes, &mut other), length);
+    assert!(other == text);
+    let times = times(|side| {
+        let printed = side.bench_text(black_box(&bytes), &mut text);
+        assert_eq!(black_box(printed), length);
+    });
+    print_line(name, job, rounds, turns, &times);
+}
+
+fn main() {
+    println!(
+        "Whole calls on floors with eight edges at each vertex, eight guides, house schedule: \
+         processor time, medians of {RUNS} alternating runs in the same memory, library / second \
+         planner."
+    );
+    let titles = |titles: [&str; 9]| {
+        let [a, b, c, d, e, f, g, h, i] = titles;
+        println!("{a:<22} {b:>6} {c:>6} {d:>7} {e:>10} {f:>10} {g:>8} {h:>8} {i:>7}");
+    };
+    titles(["", "", "", "", "library", "second", "library", "second", ""]);
+    titles([
+        "job", "V", "rounds", "turns", "ms", "ms", "ns/turn", "ns/turn", "ratio",
+    ]);
+    for (name, sheets) in [("sensible", Sheets::Sensible), ("hostile", Sheets::Hostile)] {
+        let sizes = [(16, 16), (32, 16), (32, 32), (64, 32), (64, 64)];
+        let turns = sizes.map(|(width, height)| {
+            compare(&format!("{name} sheets"), &job(7, width, height, sheets))
+        });
+        let [library, second] = [0, 1].map(|side| turns[4][side] / turns[0][side]);
+        println!(
+            "  from 256 to 4096 vertices a turn takes {library:.1} times as long, second planner \
+             {second:.1} times"
+        );
+        compare_text(&format!("{name}, printed text"), &job(7, 16, 16, sheets));
+    }
+}

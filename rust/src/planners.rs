@@ -1,0 +1,386 @@
+//! Planners under comparison: the library, the second planner and faulty
+//! ones. One job runs on two of them, and figures, text and the whole lent
+//! memory are compared, the words around it included.
+
+use crate::bench_text;
+use crate::ffi;
+use crate::guarded::Guarded;
+use crate::jobs::Job;
+use crate::planner::{self, Answer, Fault, Figures, Memory, Request};
+
+/// The planner call and the bench program's text.
+pub trait Planner {
+    fn plan(&self, request: &Request, memory: Memory) -> Figures;
+
+    /// The length of the printed text; its first bytes are written as far as
+    /// there is room.
+    fn bench_text(&self, job: &[u8], text: &mut [u8]) -> usize;
+}
+
+/// The library under test.
+pub struct Library;
+
+impl Planner for Library {
+    fn plan(&self, request: &Request, memory: Memory) -> Figures {
+        ffi::plan(request, memory)
+    }
+
+    fn bench_text(&self, job: &[u8], text: &mut [u8]) -> usize {
+        ffi::bench_text(job, text)
+    }
+}
+
+/// Writes the first bytes of a text as far as there is room.
+pub fn write_text(printed: &str, text: &mut [u8]) -> usize {
+    let written = printed.len().min(text.len());
+    text[..written].copy_from_slice(&printed.as_bytes()[..written]);
+    printed.len()
+}
+
+/// The second planner.
+pub struct SecondPlanner;
+
+impl Planner for SecondPlanner {
+    fn plan(&self, request: &Request, memory: Memory) -> Figures {
+        planner::plan(request, memory).figures()
+    }
+
+    fn bench_text(&self, job: &[u8], text: &mut [u8]) -> usize {
+        write_text(&bench_text::bench_text(job), text)
+    }
+}
+
+/// The second planner with a fault.
+pub struct FaultyPlanner(pub Fault);
+
+impl FaultyPlanner {
+    fn answer(&self, request: &Request, memory: Memory) -> Answer {
+        planner::plan_observed(request, memory, Some(self.0), &mut |_| ())
+    }
+}
+
+impl Planner for FaultyPlanner {
+    fn plan(&self, request: &Request, memory: Memory) -> Figures {
+        self.answer(request, memory).figures()
+    }
+
+    fn bench_text(&self, job: &[u8], text: &mut [u8]) -> usize {
+        let plan = |request: &Request, memory: Memory| self.answer(request, memory);
+        write_text(&bench_text::bench_text_by(job, plan), text)
+    }
+}
+
+/// A call's figures, the memory it was lent and the memory it read, guards
+/// included.
+#[derive(Clone, Debug, PartialEq, Eq)]
+pub struct Outcome {
+    pub figures: Figures,
+    pub route: Vec<u32>,
+    pub log: Vec<u32>,
+    pub work: Vec<u32>,
+    /// The plan's bytes; anchor table, guide sheets and schedule.
+    pub bytes: Vec<u8>,
+    pub numbers: [Vec<u32>; 3],
+}
+
+impl Outcome {
+    /// The answer that the figures give.
+    pub fn answer(&self) -> Answer {
+        Answer::of_figures(self.figures).expect("figures of an answer")
+    }
+}
+
+/// Route, log and work memory of a job as they are before a call.
+pub fn lent_memory(job: &Job, salt: u64) -> [Guarded<u32>; 3] {
+    [
+        Guarded::with_room(job.route_room, 3 * salt),
+        Guarded::with_room(job.log_room, 3 * salt + 1),
+        Guarded::with_room(job.work_room, 3 * salt + 2),
+    ]
+}
+
+/// Runs a job in guarded memory; `salt` selects the pattern that fills it.
+pub fn run(planner: &dyn Planner, job: &Job, salt: u64) -> Outcome {
+    let bytes = Guarded::with_contents(&job.bytes, salt);
+    let anchor = Guarded::with_contents(&job.anchor, salt);
+    let guides = Guarded::with_contents(&job.guides, salt);
+    let schedule = Guarded::with_contents(&job.schedule, salt);
+    let [mut route, mut log, mut work] = lent_memory(job, salt);
+    let request = Request {
+        bytes: bytes.lent(),
+        anchor: anchor.lent(),
+        guides: guides.lent(),
+        schedule: schedule.lent(),
+        ..job.request()
+    };
+    let memory = Memory {
+        route: route.lent_mut(),
+        log: log.lent_mut(),
+        work: work.lent_mut(),
+    };
+    let figures = planner.plan(&request, memory);
+    Outcome {
+        figures,
+        route: route.all,
+        log: log.all,
+        work: work.all,
+        bytes: bytes.all,
+        numbers: [anchor.all, guides.all, schedule.all],
+    }
+}
+
+/// The length of a printed text, its memory and the job's bytes, guards
+/// included.
+#[derive(Clone, Debug, PartialEq, Eq)]
+pub struct TextOutcome {
+    pub length: usize,
+    pub text: Vec<u8>,
+    pub job: Vec<u8>,
+}
+
+/// Runs the bench program's text in guarded memory.
+pub fn run_text(planner: &dyn Planner, bytes: &[u8], room: usize, salt: u64) -> TextOutcome {
+    let job = Guarded::with_contents(bytes, salt);
+    let mut text = Guarded::with_room(room, salt);
+    let length = planner.bench_text(job.lent(), text.lent_mut());
+    TextOutcome {
+        length,
+        text: text.all,
+        job: job.all,
+    }
+}
+
+/// How many kinds of ending there are.
+pub const KINDS: usize = 17;
+/// The kinds that are not a refusal; a refusal's kind is its number.
+pub const ROUTE: usize = 0;
+pub const NO_ROUTE: usize = 15;
+pub const UNFINISHED: usize = 16;
+
+/// The kind of ending that figures tell.
+pub fn kind_of(figures: &Figures) -> usize {
+    match Answer::of_figures(*figures).expect("figures of an answer") {
+        Answer::Route { .. } => ROUTE,
+        Answer::NoRoute { .. } => NO_ROUTE,
+        Answer::Unfinished { .. } => UNFINISHED,
+        Answer::Refused { number, .. } => number as usize,
+    }
+}
+
+/// The kind of ending that a printed text tells.
+pub fn kind_of_text(text: &str) -> usize {
+    let last = text.lines().last().expect("a text has a line");
+    let words: Vec<&str> = last.split(' ').collect();
+    match words[..] {
+        ["refused", number, "at", _] => number.parse().expect("a refusal has a number"),
+        ["end", "cost", _, "rounds", _, "turns", _, "bound", _] => ROUTE,
+        ["no", "route", "turns", _] => NO_ROUTE,
+        ["unfinished", "turns", _] => UNFINISHED,
+        _ => panic!("an ending that the paper does not name: {last}"),
+    }
+}
+
+/// A text of bounded length for a failed comparison.
+fn shortened(mut text: String) -> String {
+    if text.len() > 3_000 {
+        text.truncate(3_000);
+        text.push_str("...");
+    }
+    text
+}
+
+/// Compares two planners job by job and counts what was seen.
+pub struct Comparison<'a> {
+    left: &'a dyn Planner,
+    right: &'a dyn Planner,
+    pub jobs: u64,
+    pub texts: u64,
+    /// Jobs and texts by their kind of ending, as the right side gives it.
+    pub job_kinds: [u64; KINDS],
+    pub text_kinds: [u64; KINDS],
+}
+
+impl<'a> Comparison<'a> {
+    pub fn new(left: &'a dyn Planner, right: &'a dyn Planner) -> Self {
+        Comparison {
+            left,
+            right,
+            jobs: 0,
+            texts: 0,
+            job_kinds: [0; KINDS],
+            text_kinds: [0; KINDS],
+        }
+    }
+
+    /// Runs one job on both sides; gives a text if they differ, or if the
+    /// left side differs from the answer known from the job's making.
+    pub fn job_differs(&mut self, job: &Job, known: Option<Answer>) -> Option<String> {
+        let salt = self.jobs;
+        let left = run(self.left, job, salt);
+        let right = run(self.right, job, salt);
+        self.jobs += 1;
+        self.job_kinds[kind_of(&right.figures)] += 1;
+        if let Some(known) = known {
+            if left.figures != known.figures() {
+                return Some(shortened(format!(
+                    "figures {:?}, by the job's making {known:?}: {job:02X?}",
+                    left.figures
+                )));
+            }
+        }
+        let differing = [
+            ("figures", left.figures != right.figures),
+            ("route memory", left.route != right.route),
+            ("log memory", left.log != right.log),
+            ("work memory", left.work != right.work),
+            ("what a call only reads", left != right),
+        ];
+        let (name, _) = differing.into_iter().find(|&(_, differs)| differs)?;
+        Some(shortened(format!(
+            "{name} differ: {:?} and {:?}: {job:02X?}",
+            left.figures, right.figures
+        )))
+    }
+
+    /// Runs the bench program's text on both sides, with room to spare and
+    /// with a room up to the text's length; gives a text if they differ.
+    pub fn text_differs(&mut self, bytes: &[u8], known: Option<&str>) -> Option<String> {
+        let salt = self.texts;
+        let length = self.right.bench_text(bytes, &mut []);
+        let less = match salt % 4 {
+            0 => length,
+            1 => length - 1,
+            2 => salt as usize * 7 % length,
+            _ => 0,
+        };
+        self.texts += 1;
+        for room in [length + 1 + salt as usize % 40, less] {
+            let left = run_text(self.left, bytes, room, salt);
+            let right = run_text(self.right, bytes, room, salt);
+            let lent = |outcome: &TextOutcome| {
+                let all = Guarded {
+                    all: outcome.text.clone(),
+                };
+                String::from_utf8_lossy(&all.lent()[..room.min(length)]).into_owned()
+            };
+            if room > length {
+                let printed = lent(&right);
+                self.text_kinds[kind_of_text(&printed)] += 1;
+                if known.is_some_and(|known| known != lent(&left)) {
+                    return Some(shortened(format!(
+                        "printed {:?}, by the job's making {known:?}: {bytes:02X?}",
+                        lent(&left)
+                    )));
+                }
+            }
+            if left != right {
+                return Some(shortened(format!(
+                    "texts of length {} and {} in {room} bytes differ: {:?} and {:?}: {bytes:02X?}",
+                    left.length,
+                    right.length,
+                    lent(&left),
+                    lent(&right)
+                )));
+            }
+        }
+        None
+    }
+
+    /// Runs one job on both sides and panics if they differ.
+    pub fn job(&mut self, job: &Job, known: Option<Answer>) {
+        if let Some(text) = self.job_differs(job, known) {
+            panic!("job {}: {text}", self.jobs - 1);
+        }
+    }
+
+    /// Runs the bench program's text on both sides and panics if they differ.
+    pub fn text(&mut self, bytes: &[u8], known: Option<&str>) {
+        if let Some(text) = self.text_differs(bytes, known) {
+            panic!("text {}: {text}", self.texts - 1);
+        }
+    }
+
+    /// Prints how many jobs and texts were compared, by their ending.
+    pub fn report(&self, name: &str) {
+        let met = |kinds: &[u64; KINDS]| {
+            let met: Vec<String> = (0..)
+                .zip(kinds)
+                .filter(|&(_, &count)| count > 0)
+                .map(|(kind, count)| match kind {
+                    ROUTE => format!("route {count}"),
+                    NO_ROUTE => format!("no route {count}"),
+                    UNFINISHED => format!("unfinished {count}"),
+                    number => format!("refusal {number}: {count}"),
+                })
+                .collect();
+            met.join(", ")
+        };
+        if self.jobs > 0 {
+            println!("{name}: {} jobs: {}", self.jobs, met(&self.job_kinds));
+        }
+        if self.texts > 0 {
+            println!("{name}: {} texts: {}", self.texts, met(&self.text_kinds));
+        }
+    }
+}
+
+#[cfg(test)]
+mod tests {
+    use super::*;
+    use crate::guarded::GUARD;
+    use crate::jobs;
+    use crate::random::Random;
+
+    #[test]
+    fn an_outcome_holds_the_guards() {
+        let (_, mut job) = jobs::random_job(&mut Random::new(1), jobs::Shape::Tiny);
+        job.log_room = 3;
+        let outcome = run(&SecondPlanner, &job, 4);
+        assert_eq!(outcome.route.len(), job.route_room + 2 * GUARD);
+        assert_eq!(outcome.log.len(), 3 + 2 * GUARD);
+        assert_eq!(outcome.work.len(), job.work_room + 2 * GUARD);
+        let [route, log, work] = lent_memory(&job, 4);
+        for index in 0..GUARD {
+            for (after, before) in [
+                (&outcome.route, &route.all),
+                (&outcome.log, &log.all),
+                (&outcome.work, &work.all),
+            ] {
+                assert_eq!(after[index], before[index]);
+                let last = after.len() - 1 - index;
+                assert_eq!(after[last], before[last]);
+            }
+        }
+    }
+
+    #[test]
+    fn figures_are_those_of_an_answer_or_of_none() {
+        for answer in [
+            Answer::Route {
+                cost: 1,
+                length: 2,
+                rounds: 3,
+                turns: 4,
+                bound: 5,
+            },
+            Answer::NoRoute { turns: 7 },
+            Answer::Unfinished { turns: 0 },
+            Answer::Refused {
+                number: 13,
+                position: 32_767,
+            },
+        ] {
+            assert_eq!(Answer::of_figures(answer.figures()), Some(answer));
+        }
+        for figures in [
+            [0, 1, 0, 0, 0, 0, 0, 0],
+            [1, 0, 0, 0, 0, 0, 7, 10_000],
+            [2, 0, 0, 1, 0, 0, 7, 0],
+            [3, 8, 0, 0, 0, 0, 1, 0],
+            [4, 8, 0, 0, 0, 0, 0, 0],
+            [0, 0, 0, 1 << 32, 1, 1, 1, 1],
+        ] {
+            assert_eq!(Answer::of_figures(figures), None);
+        }
+    }
+}

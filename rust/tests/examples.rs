@@ -1,0 +1,128 @@
+//! The files in `examples`: each text form gives the bytes beside it, and
+//! the library and the second planner print the text beside them.
+
+use std::fs;
+use std::path::PathBuf;
+use std::process::Command;
+
+use secondcoop_tests::planners::{Library, Planner, SecondPlanner};
+use secondcoop_tests::text::{PlanLines, TextJob};
+
+fn examples() -> PathBuf {
+    PathBuf::from(env!("CARGO_MANIFEST_DIR")).join("../examples")
+}
+
+/// The names of the jobs.
+fn names() -> Vec<String> {
+    let mut names: Vec<String> = fs::read_dir(examples())
+        .expect("there are examples")
+        .filter_map(|entry| {
+            let name = entry.ok()?.file_name().into_string().ok()?;
+            name.strip_suffix(".job").map(String::from)
+        })
+        .collect();
+    names.sort();
+    names
+}
+
+fn read(name: &str, form: &str) -> Vec<u8> {
+    let path = examples().join(format!("{name}.{form}"));
+    fs::read(&path).unwrap_or_else(|error| panic!("{}: {error}", path.display()))
+}
+
+fn read_text(name: &str, form: &str) -> String {
+    String::from_utf8(read(name, form)).expect("a text")
+}
+
+/// What a planner prints for a job's bytes.
+fn printed(planner: &dyn Planner, bytes: &[u8]) -> String {
+    let mut text = vec![0; planner.bench_text(bytes, &mut [])];
+    planner.bench_text(bytes, &mut text);
+    String::from_utf8(text).expect("a text")
+}
+
+#[test]
+fn all_are_there() {
+    let mut wanted: Vec<String> = [1, 2, 3, 4, 5, 6, 7, 8, 10, 12, 13, 14]
+        .map(|number| format!("refusal-{number:02}"))
+        .into();
+    let floors = [
+        "job-a",
+        "wall",
+        "no-route",
+        "start-is-goal",
+        "cut-round-two",
+    ];
+    wanted.extend(floors.map(String::from));
+    wanted.sort();
+    assert_eq!(names(), wanted);
+    let read_me = read_text("README", "md");
+    for name in floors {
+        assert!(read_me.contains(&format!("`{name}`")), "{name}");
+    }
+}
+
+#[test]
+fn the_text_form_gives_the_bytes() {
+    for name in names() {
+        let job = TextJob::parse(&read_text(&name, "txt")).expect("a text form");
+        let bytes = read(&name, "job");
+        assert_eq!(job.bytes(), bytes, "{name}");
+        // And the bytes give a text form of the same job.
+        let text = TextJob::of_bytes(&bytes).to_string();
+        let again = TextJob::parse(&text).expect("a text form");
+        assert_eq!(again.bytes(), bytes, "{name}");
+    }
+    PlanLines::parse(&read_text("plan-a", "txt")).expect("a plan");
+}
+
+#[test]
+fn the_expected_text_is_printed() {
+    for name in names() {
+        let (bytes, expected) = (read(&name, "job"), read_text(&name, "out"));
+        assert_eq!(printed(&SecondPlanner, &bytes), expected, "{name}");
+        assert_eq!(printed(&Library, &bytes), expected, "{name}");
+        if let Some(number) = name.strip_prefix("refusal-") {
+            let number: u32 = number.parse().expect("a number");
+            assert!(expected.starts_with(&format!("refused {number} at ")));
+            let job = TextJob::parse(&read_text(&name, "txt")).expect("a text form");
+            assert_eq!(job.remarks()[0].refusal, number);
+        }
+    }
+}
+
+/// The tool on the files: bytes, hexadecimal pairs, text, what is wrong.
+#[test]
+fn the_tool_turns_each_form_into_the_others() {
+    let job = |command: &str, path: &PathBuf| {
+        let output = Command::new(env!("CARGO_BIN_EXE_job"))
+            .arg(command)
+            .arg(path)
+            .output()
+            .expect("the tool runs");
+        (output.status.success(), output.stdout)
+    };
+    let directory = PathBuf::from(env!("CARGO_TARGET_TMPDIR"));
+    for name in names() {
+        let bytes = read(&name, "job");
+        for form in ["txt", "job"] {
+            let path = examples().join(format!("{name}.{form}"));
+            assert_eq!(job("bytes", &path), (true, bytes.clone()), "{name}.{form}");
+            assert_eq!(job("print", &path), (true, read(&name, "out")));
+            let (good, words) = job("check", &path);
+            assert_eq!(good, !name.starts_with("refusal"));
+            assert_eq!(good, words.is_empty());
+            for form in ["hex", "text"] {
+                let (good, contents) = job(form, &path);
+                assert!(good);
+                let other = directory.join(format!("{name}.{form}"));
+                fs::write(&other, contents).expect("a file is written");
+                assert_eq!(job("bytes", &other), (true, bytes.clone()));
+            }
+        }
+    }
+    let (good, words) = job("describe", &PathBuf::from("13"));
+    assert!(good && String::from_utf8_lossy(&words).starts_with("refusal 13: the anchor table"));
+    assert!(!job("describe", &PathBuf::from("0")).0);
+    assert!(!job("bytes", &examples().join("plan-a.txt")).0);
+}

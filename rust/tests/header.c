@@ -1,0 +1,107 @@
+/* Each function of the header on a small case; the exit status counts the
+ * cases that went wrong. */
+#include <stdio.h>
+#include <string.h>
+
+#include "secondcoop.h"
+
+static int wrong;
+
+static void expect(const char *name, const uint64_t *figures,
+                   const uint64_t *wanted, size_t count)
+{
+    if (memcmp(figures, wanted, count * sizeof *figures) != 0) {
+        printf("%s\n", name);
+        wrong++;
+    }
+}
+
+static const uint8_t plan_a[] = {4, 4, 0, 1, 1, 0, 2, 4, 1, 2, 2, 1, 3, 3};
+
+static void numbers(void)
+{
+    static const uint8_t bytes[] = {0xC0, 0x84, 0x3D, 0xFF, 0xFF, 0xFF, 0xFF, 0x0F};
+    uint64_t figures[4];
+    secondcoop_read_plan_number(bytes, sizeof bytes, 0, figures);
+    expect("read_plan_number", figures, (const uint64_t[]){0, 0, 1000000, 3}, 4);
+    secondcoop_read_plan_number(bytes, sizeof bytes, 3, figures);
+    expect("read_plan_number refuses", figures, (const uint64_t[]){1, 3, 0, 0}, 4);
+    secondcoop_read_job_number(bytes, sizeof bytes, 3, figures);
+    expect("read_job_number", figures, (const uint64_t[]){0, 0, UINT32_MAX, 8}, 4);
+    uint8_t out[4] = {0xEE, 0xEE, 0xEE, 0xEE};
+    secondcoop_write_plan_number(out, sizeof out, 1, 1000000, figures);
+    expect("write_plan_number", figures, (const uint64_t[]){0, 0, 4, 0}, 4);
+    if (out[0] != 0xEE || memcmp(out + 1, bytes, 3) != 0)
+        wrong++;
+    secondcoop_write_plan_number(out, sizeof out, 4, 0, figures);
+    expect("write_plan_number refuses", figures, (const uint64_t[]){11, 0, 0, 0}, 4);
+}
+
+static void plans(void)
+{
+    uint64_t figures[4];
+    uint32_t tails[4], heads[4], costs[4];
+    uint8_t out[14];
+    secondcoop_check_plan(plan_a, sizeof plan_a, figures);
+    expect("check_plan", figures, (const uint64_t[]){0, 0, 4, 4}, 4);
+    secondcoop_check_plan(plan_a, 13, figures);
+    expect("check_plan refuses", figures, (const uint64_t[]){1, 13, 0, 0}, 4);
+    secondcoop_read_plan(plan_a, sizeof plan_a, tails, 3, heads, 4, costs, 4, figures);
+    expect("read_plan refuses", figures, (const uint64_t[]){11, 0, 0, 0}, 4);
+    secondcoop_read_plan(plan_a, sizeof plan_a, tails, 4, heads, 4, costs, 4, figures);
+    expect("read_plan", figures, (const uint64_t[]){0, 0, 4, 4}, 4);
+    secondcoop_write_plan(4, tails, 4, heads, 4, costs, 4, out, sizeof out, figures);
+    expect("write_plan", figures, (const uint64_t[]){0, 0, 14, 0}, 4);
+    if (memcmp(out, plan_a, sizeof out) != 0)
+        wrong++;
+    secondcoop_write_plan(4, tails, 4, heads, 3, costs, 4, out, sizeof out, figures);
+    expect("write_plan refuses", figures, (const uint64_t[]){3, 0, 0, 0}, 4);
+}
+
+static void planner(void)
+{
+    static const uint32_t anchor[] = {0, 0}, guides[] = {1, 1};
+    static const uint8_t plan[] = {2, 0};
+    uint32_t route[2] = {7, 7}, log[1] = {7}, work[11];
+    const uint32_t none = SECONDCOOP_NONE;
+    uint64_t figures[8];
+    secondcoop_plan(plan, sizeof plan, 0, 1, anchor, 2, guides, 2, 1, guides, 0, 9,
+                    route, 2, log, 1, work, 11, figures);
+    expect("plan", figures, (const uint64_t[]){SECONDCOOP_NO_ROUTE, 0, 0, 0, 0, 0, 1, 0}, 8);
+    if (route[0] != 7 || log[0] != 0 || work[4] != 0 || work[8] != none)
+        wrong++;
+    secondcoop_plan(plan, sizeof plan, 0, 1, anchor, 2, guides, 2, 1, guides, 0, 0,
+                    route, 2, log, 1, work, 11, figures);
+    expect("plan without turns", figures,
+           (const uint64_t[]){SECONDCOOP_UNFINISHED, 0, 0, 0, 0, 0, 0, 0}, 8);
+    secondcoop_plan(plan, sizeof plan, 0, 2, anchor, 2, guides, 2, 1, guides, 0, 9,
+                    route, 2, log, 1, work, 11, figures);
+    expect("plan refuses", figures,
+           (const uint64_t[]){SECONDCOOP_REFUSED, 8, 0, 0, 0, 0, 0, 0}, 8);
+}
+
+static void text(void)
+{
+    static const uint8_t job[] = {2, 2, 0, 0, 1, 1, 0, 0, 0, 0};
+    static const char printed[] = "turn 1 table 0 place 0\nno route turns 1\n";
+    uint8_t lent[64];
+    memset(lent, 0xEE, sizeof lent);
+    const size_t length = strlen(printed);
+    if (secondcoop_bench_text(job, sizeof job, lent, 5) != length)
+        wrong++;
+    if (memcmp(lent, printed, 5) != 0 || lent[5] != 0xEE)
+        wrong++;
+    if (secondcoop_bench_text(job, sizeof job, lent, sizeof lent) != length)
+        wrong++;
+    if (memcmp(lent, printed, length) != 0 || lent[length] != 0xEE)
+        wrong++;
+}
+
+int main(void)
+{
+    numbers();
+    plans();
+    planner();
+    text();
+    return wrong;
+}

@@ -1,0 +1,266 @@
+//! The text form of jobs: round trips with bytes, and what is said about a
+//! line that is wrong.
+
+use secondcoop_tests::bench_text;
+use secondcoop_tests::jobs;
+use secondcoop_tests::planners::{kind_of_text, KINDS};
+use secondcoop_tests::random::Random;
+use secondcoop_tests::text::{pairs, pairs_text, PlanLines, TextJob};
+
+/// Job A of the paper.
+const JOB_A: &str = "\
+# Job A
+places 4
+lane 0 1 1
+lane 0 2 4
+lane 1 2 2
+lane 2 3 3
+start 0
+goal 3
+allowance 100
+round 200 200
+round 100 100
+anchor 6 5 3 0
+guide 0 9 0 0
+";
+const JOB_A_PAIRS: &str = "0E 04 04 00 01 01 00 02 04 01 02 02 01 03 03 00 03 64 02 C8 01 C8 01 \
+                           64 64 01 06 05 03 00 00 09 00 00";
+
+#[test]
+fn job_a() {
+    let job = TextJob::parse(JOB_A).unwrap();
+    assert_eq!(job.bytes(), pairs(JOB_A_PAIRS).unwrap());
+    assert_eq!(job.remarks(), []);
+    let text = TextJob::of_bytes(&job.bytes()).to_string();
+    assert_eq!(format!("# Job A\n{text}"), JOB_A);
+    assert_eq!(
+        bench_text::bench_text(&job.bytes()),
+        "turn 1 table 1 place 0\nturn 2 table 1 place 2\nturn 3 table 0 place 1\n\
+         turn 4 table 1 place 2\nroute 0 1 2 3\nend cost 6 rounds 2 turns 4 bound 10000\n"
+    );
+}
+
+/// Every job's bytes have a text form that gives them back, and its remarks
+/// say what the bench program prints.
+fn round_trip(bytes: &[u8]) -> usize {
+    let text = TextJob::of_bytes(bytes).to_string();
+    let job = TextJob::parse(&text).unwrap_or_else(|wrong| panic!("{wrong}: {text}"));
+    assert_eq!(job.bytes(), bytes, "{text}");
+    assert_eq!(job.to_string(), text);
+    let kind = kind_of_text(&bench_text::bench_text(bytes));
+    let remarks = job.remarks();
+    match remarks.first() {
+        Some(first) => assert_eq!(first.refusal as usize, kind, "{remarks:?}: {text}"),
+        None => assert!(!(1..=14).contains(&kind), "refusal {kind}: {text}"),
+    }
+    // A remark about a line of the text names it.
+    for remark in &remarks {
+        assert!(remark.line <= text.lines().count());
+    }
+    kind
+}
+
+#[test]
+fn all_bytes_have_a_text_form() {
+    let mut kinds = [0; KINDS];
+    jobs::bench_jobs(91, 1_500, &mut |bytes, _| kinds[round_trip(bytes)] += 1);
+    for (kind, count) in kinds.into_iter().enumerate() {
+        assert!(
+            count > 20 || kind == 9 || kind == 11,
+            "kind {kind}: {count}"
+        );
+    }
+    let mut random = Random::new(92);
+    for length in 0..6_000 {
+        let most = random.pick(&[3, 10, 129, 256]);
+        let bytes: Vec<u8> = (0..length % 60).map(|_| random.below(most) as u8).collect();
+        round_trip(&bytes);
+    }
+    // Text made from a job says the same as the job.
+    jobs::valid_jobs(93, 500, &mut |_, job| {
+        let text = TextJob::of_bytes(&job.bench_bytes());
+        assert!(matches!(text, TextJob::Lines(_)) && text.remarks().is_empty());
+    });
+}
+
+#[test]
+fn pairs_are_read_and_printed() {
+    let bytes: Vec<u8> = (0..=255).collect();
+    assert_eq!(pairs(&pairs_text("", &bytes)), Some(bytes));
+    assert_eq!(pairs("0e 0E\n\tfF"), Some(vec![14, 14, 255]));
+    for wrong in ["0", "000", "0g", "+1", "0x", "00,"] {
+        assert_eq!(pairs(wrong), None);
+    }
+}
+
+/// The text with one line in place of another.
+fn with(line: usize, other: &str) -> String {
+    let mut lines: Vec<&str> = JOB_A.lines().collect();
+    lines[line - 1] = other;
+    lines.join("\n")
+}
+
+#[test]
+fn a_line_that_bytes_cannot_say_is_told() {
+    let wrong = |text: &str| TextJob::parse(text).unwrap_err();
+    for (line, other, words) in [
+        (
+            2,
+            "places",
+            "line 2: 'places' takes 1 number, and 0 stand there",
+        ),
+        (
+            2,
+            "places 4 # four\nplaces 4",
+            "line 3: 'places' stands there a second time",
+        ),
+        (2, "", "there is no line 'places V'"),
+        (
+            2,
+            "places four",
+            "line 2: 'four' is not a number from 0 to 4294967295",
+        ),
+        (
+            2,
+            "places -1",
+            "line 2: '-1' is not a number from 0 to 4294967295",
+        ),
+        (
+            2,
+            "places 2097152",
+            "line 2: 2097152 takes more than three groups; a plan number is at most 2097151",
+        ),
+        (
+            3,
+            "lane 0 1",
+            "line 3: 'lane' takes 3 numbers, and 2 stand there",
+        ),
+        (
+            3,
+            "lanes 0 1 1",
+            "line 3: 'lanes' begins no line; a line is places, lane, start, goal, allowance, \
+             round, anchor or guide",
+        ),
+        (
+            3,
+            "lane 1 1 1",
+            "line 4: tail 0 stands after tail 1; lanes stand by rising tails, and under one \
+             tail by rising heads",
+        ),
+        (
+            3,
+            "plan 04 00",
+            "line 3: 'plan' stands in place of 'places' and 'lane'",
+        ),
+        (7, "", "there is no line 'start PLACE'"),
+        (8, "", "there is no line 'goal PLACE'"),
+        (9, "", "there is no line 'allowance TURNS'"),
+        (
+            9,
+            "allowance 4294967296",
+            "line 9: '4294967296' is not a number from 0 to 4294967295",
+        ),
+        (
+            10,
+            "round 200",
+            "line 10: 'round' takes 2 numbers, and 1 stand there",
+        ),
+        (12, "", "there is no line 'anchor NUMBERS'"),
+        (
+            13,
+            "guide 0 9 0",
+            "line 13: this guide has 3 numbers, and the anchor table has 4",
+        ),
+        (
+            13,
+            "tables 00 00",
+            "line 13: 'guides' and 'tables' stand in place of 'anchor' and 'guide'",
+        ),
+        (
+            13,
+            "bytes 00",
+            "line 13: 'bytes' stands in place of all other lines",
+        ),
+    ] {
+        assert_eq!(wrong(&with(line, other)), words);
+    }
+    assert_eq!(
+        wrong("bytes 0"),
+        "line 1: '0' is not a hexadecimal pair from 00 to FF"
+    );
+    assert_eq!(wrong(""), "there is no line 'places V'");
+    assert_eq!(
+        PlanLines::parse("places 1\nstart 0").unwrap_err(),
+        "line 2: 'start' is not 'places' or 'lane'"
+    );
+}
+
+#[test]
+fn a_line_that_the_bench_program_refuses_is_told() {
+    let remarks = |line: usize, other: &str| {
+        let job = TextJob::parse(&with(line, other)).unwrap();
+        let printed = bench_text::bench_text(&job.bytes());
+        let remarks: Vec<String> = job.remarks().iter().map(|r| r.to_string()).collect();
+        assert!(printed.starts_with("refused"));
+        remarks.join("; ")
+    };
+    for (line, other, words) in [
+        (
+            3,
+            "lane 0 1 1000001",
+            "line 3: cost 1000001 is above 1000000 (refusal 5)",
+        ),
+        (
+            5,
+            "lane 1 1 2\nlane 1 1 2",
+            "line 6: head 1 is not above head 1 of the lane before; heads rise under one tail \
+             (refusal 6)",
+        ),
+        (
+            6,
+            "lane 2 4 3",
+            "line 6: head 4 is not a place; places are 0 to 3 (refusal 4)",
+        ),
+        (
+            7,
+            "start 4",
+            "line 7: start 4 is not a place; places are 0 to 3 (refusal 8)",
+        ),
+        (
+            10,
+            "round 99 200",
+            "line 10: W1 99 is not from 100 to 10000 (refusal 10); \
+                              line 11: W1 rises from 99 to 100 (refusal 10)",
+        ),
+        (
+            11,
+            "round 200 201",
+            "line 11: W2 rises from 200 to 201 (refusal 10)",
+        ),
+        (
+            12,
+            "anchor 6 5 3 1",
+            "line 12: the anchor table has 1 at the goal 3, not 0 (refusal 12)",
+        ),
+        (
+            12,
+            "anchor 7 5 3 0",
+            "line 3: on lane 0, counted from 0, the anchor table has 7 at tail 0, above cost 1 \
+             + 5 at head 1 (refusal 13)",
+        ),
+        (
+            2,
+            "places 5",
+            "line 12: the anchor table has 4 numbers, and there are 5 places \
+                         (refusal 14); line 13: guide 1 has 4 numbers, and there are 5 places \
+                         (refusal 14)",
+        ),
+    ] {
+        assert_eq!(remarks(line, other), words);
+    }
+    let many = "round 100 100\n".repeat(16);
+    assert_eq!(
+        remarks(11, &many),
+        "line 26: there are 17 rounds, over 16 (refusal 14)"
+    );
+}

@@ -1,0 +1,167 @@
+//! The library against the second planner on seeded jobs: equal figures and
+//! equal memory on every job, equal printed texts, every kind of ending and
+//! every rare event met.
+//!
+//! The variable `SECONDCOOP_JOBS` asks for about so many jobs in the first
+//! test and as many texts as a fifth of them, `SECONDCOOP_SEED` for other
+//! jobs.
+
+use std::env;
+use std::str::FromStr;
+
+use secondcoop_tests::bench_text;
+use secondcoop_tests::events::Events;
+use secondcoop_tests::jobs;
+use secondcoop_tests::planner::Answer;
+use secondcoop_tests::planners::{
+    self, Comparison, Library, SecondPlanner, KINDS, NO_ROUTE, ROUTE, UNFINISHED,
+};
+
+const JOBS: usize = 150_000;
+/// A job comes with about so many budgets.
+const BUDGETS: usize = 5;
+
+/// What a variable asks for, if it is set.
+fn asked<T: FromStr>(name: &str) -> Option<T> {
+    let value = env::var(name).ok()?;
+    match value.parse() {
+        Ok(number) => Some(number),
+        Err(_) => panic!("{name} is not a number: {value}"),
+    }
+}
+
+/// The seed of a test.
+fn seed(own: u64) -> u64 {
+    own + 1_000 * asked::<u64>("SECONDCOOP_SEED").unwrap_or(0)
+}
+
+/// Each listed kind of ending was met at least so often, and no other.
+fn met(kinds: &[u64; KINDS], least: &[(usize, u64)]) {
+    for (kind, &count) in kinds.iter().enumerate() {
+        match least.iter().find(|&&(listed, _)| listed == kind) {
+            Some(&(_, least)) => assert!(count >= least, "kind {kind}: {count} of {least}"),
+            None => assert_eq!(count, 0, "kind {kind} is not expected"),
+        }
+    }
+}
+
+#[test]
+fn seeded_jobs_are_planned_alike() {
+    let wanted = asked("SECONDCOOP_JOBS").unwrap_or(JOBS);
+    let mut comparison = Comparison::new(&Library, &SecondPlanner);
+    let mut events = Events::default();
+    jobs::valid_jobs(seed(71), wanted / BUDGETS, &mut |_, job| {
+        comparison.job(job, None);
+        events.count(job);
+    });
+    comparison.report("seeded_jobs_are_planned_alike");
+    for (name, count) in events.names() {
+        println!("  {name}: {count}");
+    }
+    if wanted < JOBS {
+        return;
+    }
+    assert!(comparison.jobs >= 100_000);
+    let ends = [(ROUTE, 50_000), (NO_ROUTE, 20_000), (UNFINISHED, 30_000)];
+    met(&comparison.job_kinds, &ends);
+    for (name, count) in events.names() {
+        assert!(count >= 50, "{name}: {count} in {} jobs", events.jobs);
+    }
+}
+
+#[test]
+fn every_budget_is_spent_alike() {
+    let mut comparison = Comparison::new(&Library, &SecondPlanner);
+    let mut events = Events::default();
+    jobs::every_budget(seed(72), 5_000, &mut |_, job| {
+        comparison.job(job, None);
+        events.count(job);
+    });
+    comparison.report("every_budget_is_spent_alike");
+    for (name, count) in events.names() {
+        println!("  {name}: {count}");
+    }
+    let ends = [(ROUTE, 10_000), (NO_ROUTE, 3_000), (UNFINISHED, 8_000)];
+    met(&comparison.job_kinds, &ends);
+    // A round is cut at each of its ends, the first round and later ones.
+    for count in [
+        events.cut_at_begin_of_first,
+        events.cut_at_begin_of_later,
+        events.cut_before_end_of_first,
+        events.cut_before_end_of_later,
+        events.cut_before_no_route,
+        events.cut_inside,
+        events.end_with_budget_spent,
+        events.finish_without_turn,
+    ] {
+        assert!(count >= 300, "{events:?}");
+    }
+}
+
+#[test]
+fn damaged_jobs_are_refused_alike() {
+    let mut comparison = Comparison::new(&Library, &SecondPlanner);
+    jobs::damaged_jobs(seed(73), 26_000, &mut |job, known| {
+        comparison.job(job, Some(known));
+    });
+    comparison.report("damaged_jobs_are_refused_alike");
+    let each: Vec<(usize, u64)> = (1..=13).map(|number| (number, 800)).collect();
+    met(&comparison.job_kinds, &each);
+}
+
+#[test]
+fn wild_jobs_are_answered_alike() {
+    let mut comparison = Comparison::new(&Library, &SecondPlanner);
+    jobs::wild_jobs(seed(74), 40_000, &mut |job| comparison.job(job, None));
+    comparison.report("wild_jobs_are_answered_alike");
+    let mut each: Vec<(usize, u64)> = (1..=13)
+        .map(|number| (number, if number == 3 { 0 } else { 50 }))
+        .collect();
+    each.extend([(ROUTE, 500), (NO_ROUTE, 500), (UNFINISHED, 500)]);
+    met(&comparison.job_kinds, &each);
+}
+
+/// 4,096 vertices, 32,768 edges, eight guides, sixteen rounds, costs near 32
+/// bits, and bench jobs of the greatest size.
+#[test]
+fn jobs_at_the_limits_are_planned_alike() {
+    let mut comparison = Comparison::new(&Library, &SecondPlanner);
+    let mut largest = 0;
+    jobs::large_jobs(seed(75), &mut |plan, job| {
+        comparison.job(job, None);
+        let size = (plan.vertices, plan.edges(), job.guide_count);
+        let all_rounds = |answer| matches!(answer, Answer::Route { rounds: 16, .. });
+        if size == (4_096, 32_768, 8) && all_rounds(planners::run(&Library, job, 0).answer()) {
+            largest += 1;
+        }
+        if plan.vertices as usize <= bench_text::MOST_BENCH_VERTICES {
+            comparison.text(&job.bench_bytes(), None);
+        }
+    });
+    comparison.report("jobs_at_the_limits_are_planned_alike");
+    assert!(comparison.jobs >= 15 && comparison.texts >= 3);
+    assert!(comparison.job_kinds[ROUTE] >= 10 && comparison.text_kinds[ROUTE] >= 2);
+    assert!(
+        largest >= 1,
+        "no job of the greatest size finished 16 rounds"
+    );
+}
+
+#[test]
+fn texts_are_printed_alike() {
+    let wanted = asked("SECONDCOOP_JOBS").unwrap_or(JOBS);
+    let mut comparison = Comparison::new(&Library, &SecondPlanner);
+    jobs::bench_jobs(seed(76), wanted / 5 / BUDGETS, &mut |bytes, known| {
+        comparison.text(bytes, known.as_deref());
+    });
+    comparison.report("texts_are_printed_alike");
+    if wanted < JOBS {
+        return;
+    }
+    let mut each: Vec<(usize, u64)> = (1..=14)
+        .filter(|number| ![9, 11].contains(number))
+        .map(|number| (number, 300))
+        .collect();
+    each.extend([(ROUTE, 4_000), (NO_ROUTE, 1_000), (UNFINISHED, 2_000)]);
+    met(&comparison.text_kinds, &each);
+}
