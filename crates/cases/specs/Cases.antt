@@ -11,7 +11,7 @@ use Rattle.search.specs.Job.{Job, factors, routeEnd, atFirst}
 use Rattle.search.specs.Call.{Memory, Call, jobOf}
 use Rattle.search.specs.Admitted.{Schedule, Admitted}
 use Rattle.search.specs.Outcome.{Figures, route, noRoute, unfinished, refused, figures, workWords, answer, memoryAfter}
-use Rattle.job.specs.JobA.{PrintsA}
+use Rattle.job.specs.JobA.{planA, PrintsA}
 
 -- ---- what a call hands over
 
@@ -42,9 +42,6 @@ pub record PlanRefused (bytes : List ℕ) (n p : ℕ) : Type 0 where
   pub called : (c : Call) → c .bytes ≡ bytes → HandsOver c (refusedAt n p) (c .memory)
 
 -- ---- plan A and job A
-
-abbrev pub planA : List ℕ
-planA = 0x04 ∷ 0x04 ∷ 0x00 ∷ 0x01 ∷ 0x01 ∷ 0x00 ∷ 0x02 ∷ 0x04 ∷ 0x01 ∷ 0x02 ∷ 0x02 ∷ 0x01 ∷ 0x03 ∷ 0x03 ∷ []
 
 -- every word of lent memory before the call
 abbrev pub old : ℕ
