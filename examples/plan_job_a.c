@@ -2,7 +2,7 @@
  * Plans job A of document 01 and prints answer and route. The exit status is
  * 0 only if the answer is the paper's.
  *
- *   cc -std=c11 -Wall -Wextra -Werror -Iinclude examples/plan_job_a.c target/staticlib/libffi.a
+ *   cc -std=c11 -Wall -Wextra -Werror -Iinclude examples/plan_job_a.c target/staticlib/libffi_planner.a
  */
 #include <inttypes.h>
 #include <stdio.h>

@@ -16,13 +16,19 @@ fn main() {
     };
     println!("cargo:rerun-if-env-changed=SECONDCOOP_LIB_DIR");
     println!("cargo:rerun-if-changed=build.rs");
-    let archive = directory.join("libffi.a");
-    if !archive.exists() {
-        println!("cargo:warning={} is missing", archive.display());
-    }
-    println!("cargo:rerun-if-changed={}", archive.display());
     println!("cargo:rustc-link-search=native={}", directory.display());
-    println!("cargo:rustc-link-lib=static=ffi");
-    // For tests that link a C program.
-    println!("cargo:rustc-env=SECONDCOOP_ARCHIVE={}", archive.display());
+    // Numbers and plans; planner calls and the bench text. The names of the
+    // archives are for tests that link a C program.
+    for (library, variable) in [
+        ("ffi", "SECONDCOOP_CODEC_ARCHIVE"),
+        ("ffi_planner", "SECONDCOOP_PLANNER_ARCHIVE"),
+    ] {
+        let archive = directory.join(format!("lib{library}.a"));
+        if !archive.exists() {
+            println!("cargo:warning={} is missing", archive.display());
+        }
+        println!("cargo:rerun-if-changed={}", archive.display());
+        println!("cargo:rustc-link-lib=static={library}");
+        println!("cargo:rustc-env={variable}={}", archive.display());
+    }
 }

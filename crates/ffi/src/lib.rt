@@ -1,19 +1,14 @@
-// Numbers, plans and planner calls for programs in C and Rust: answers as figures, over numbers and lent memory.
+// Numbers and plans for programs in C and Rust: answers as four figures, over numbers and lent memory.
 ghost use mathlib.Core.Path.{_≡_};
 ghost use Rattle.leb128.specs.Number.{planGroups, jobGroups, read, writeAnswer, written};
 ghost use Rattle.graph.specs.Plan.{decode, sizes};
 ghost use Rattle.graph.specs.Lists.{tailOf, headOf, costOf, readAnswer, listAfter};
 ghost use Rattle.graph.specs.Lists as lists;
-ghost use Rattle.planner.specs.Plan.{callOf};
-ghost use Rattle.job.specs.Printed.{benchText};
-ghost use Rattle.bench_text.specs.Shown.{Texts};
-ghost use Rattle.ffi.specs.Calls.{answerFigures, Exported};
 ghost use Rattle.ffi.specs.Figures.{readFigures, writtenFigures, planFigures, countFigures};
 use graph::PlanRead;
 use graph::PlanWritten;
 use leb128::NumberRead;
 use leb128::NumberWritten;
-use search::Answer;
 
 // The figures of a number that was read.
 fn of_read(read: NumberRead) -> [u64; 4]
@@ -125,67 +120,4 @@ pub extern "C" fn secondcoop_write_plan(
     ensures { λ r. ⌜ now (out .exit) ≡ lists.outAfter vertices (now (tails .entry)) (now (heads .entry)) (now (costs .entry)) (now (out .entry)) (lists.writeAnswer vertices (now (tails .entry)) (now (heads .entry)) (now (costs .entry)) (now (out .entry))) ⌝ }
 {
     *figures = of_count(graph::write::write(vertices, tails, heads, costs, out));
-}
-
-// The figures of a planner call's answer.
-fn of_answer(answer: Answer) -> [u64; 8]
-    ensures { λ r. ⌜ r ≡ answerFigures answer ⌝ }
-{
-    match answer {
-        Answer::Route(s) => [
-            0,
-            0,
-            0,
-            s.cost,
-            s.length as u64,
-            s.rounds as u64,
-            s.expansions as u64,
-            s.bound as u64,
-        ],
-        Answer::NoRoute(turns) => [1, 0, 0, 0, 0, 0, turns as u64, 0],
-        Answer::Unfinished(turns) => [2, 0, 0, 0, 0, 0, turns as u64, 0],
-        Answer::Refused(n, p) => [3, n as u64, p as u64, 0, 0, 0, 0, 0],
-    }
-}
-
-// A planner call.
-#[no_mangle]
-pub extern "C" fn secondcoop_plan(
-    bytes: &[u8],
-    start: u32,
-    goal: u32,
-    anchor: &[u32],
-    guides: &[u32],
-    guide_count: u32,
-    schedule: &[u32],
-    budget: u32,
-    route: &mut [u32],
-    log: &mut [u32],
-    work: &mut [u32],
-    figures: &mut [u64; 8],
-)
-    ensures { λ r. ⌜ Exported (callOf (now (bytes .entry)) start goal (now (anchor .entry)) (now (guides .entry)) «guide_count» (now (schedule .entry)) budget (now (route .entry)) (now (log .entry)) (now (work .entry))) (now (figures .exit)) (now (route .exit)) (now (log .exit)) (now (work .exit)) ⌝ }
-{
-    let answer = planner::plan(
-        bytes,
-        start,
-        goal,
-        anchor,
-        guides,
-        guide_count,
-        schedule,
-        budget,
-        route,
-        log,
-        work,
-    );
-    *figures = of_answer(answer);
-}
-
-// The text that the bench program prints for a job.
-#[no_mangle]
-pub extern "C" fn secondcoop_bench_text(job: &[u8], text: &mut [u8]) -> usize
-    ensures { λ r. ⌜ Texts (benchText (now (job .entry))) (now (text .entry)) r (now (text .exit)) ⌝ }
-{
-    bench_text::bench_text(job, text)
 }

@@ -6,7 +6,7 @@ use Rattle.search.specs.declared.Answer.{Answer}
 use Rattle.search.specs.Call.{Call}
 use Rattle.search.specs.Outcome.{answer}
 use Rattle.planner.specs.Plan.{Planned}
-use Rattle.ffi.specs.Calls.{answerFigures, Exported}
+use Rattle.ffi_planner.specs.Calls.{answerFigures, Exported}
 
 pub exported :
     (c : Call) (a : Answer) (figs route log work : List ℕ) → figs ≡ answerFigures a → Planned c a route log work → Exported c figs route log work

@@ -1,11 +1,11 @@
 -- `secondcoop_plan` meets its contract: the planner call's own. Assumes nothing.
-use Rattle.ffi.proofs.Handing.{exported}
+use Rattle.ffi_planner.proofs.Handing.{exported}
 use borrow.Author.Needs.{needs}
-use Rattle.ffi.proofs.secondcoop_plan.Statement.{statement}
-use Rattle.ffi.proofs.secondcoop_plan.Tie as tie
-use Rattle.ffi.proofs.secondcoop_plan.Reads as reads
-use Rattle.ffi.proofs.secondcoop_plan.Lts as lts
-use Rattle.ffi.proofs.of_answer.Reads as of-answer-reads
+use Rattle.ffi_planner.proofs.secondcoop_plan.Statement.{statement}
+use Rattle.ffi_planner.proofs.secondcoop_plan.Tie as tie
+use Rattle.ffi_planner.proofs.secondcoop_plan.Reads as reads
+use Rattle.ffi_planner.proofs.secondcoop_plan.Lts as lts
+use Rattle.ffi_planner.proofs.of_answer.Reads as of-answer-reads
 use Rattle.planner.proofs.plan.Reads as plan-reads
 
 -- src/lib.rt:167:9

@@ -1,12 +1,12 @@
 -- `of_answer` meets its contract. Assumes nothing.
 use mathlib.Core.Path.{sym, ap}
 use Rattle.search.specs.Outcome.{figures}
-use Rattle.ffi.specs.Calls.{endingNumber, eight, answerFigures}
+use Rattle.ffi_planner.specs.Calls.{endingNumber, eight, answerFigures}
 use borrow.Author.Needs.{needs}
-use Rattle.ffi.proofs.of_answer.Statement.{statement}
-use Rattle.ffi.proofs.of_answer.Tie as tie
-use Rattle.ffi.proofs.of_answer.Reads as reads
-use Rattle.ffi.proofs.of_answer.Lts as lts
+use Rattle.ffi_planner.proofs.of_answer.Statement.{statement}
+use Rattle.ffi_planner.proofs.of_answer.Tie as tie
+use Rattle.ffi_planner.proofs.of_answer.Reads as reads
+use Rattle.ffi_planner.proofs.of_answer.Lts as lts
 
 -- src/lib.rt:133:23
 enum-known-answer : tie.Need-enum-known-answer
