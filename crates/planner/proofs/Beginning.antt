@@ -4,8 +4,6 @@ use native.Mathlib.Omega.{arith}
 use mathlib.Core.Path.{_≡_, refl, sym, ap, _∙_, subst}
 use mathlib.Core.List.{List, []}
 use lib.ListN.{length, length-set, length-replicate}
-use lib.Dec.{eqb}
-use mir.Facts.{eqb-no}
 use Rattle.graph.specs.declared.Edge.{Edge}
 use Rattle.graph.specs.declared.PlanRead.the-variants.{Sizes}
 use Rattle.graph.specs.Plan.{accepted, firstAt, edgesFrom, afterHeader, decode, sizes}
@@ -16,7 +14,6 @@ use Rattle.search.specs.Job.{Job, guides, atFirst}
 use Rattle.search.specs.Rounds.{State, Stand, firstTurn, settle, settled, begin}
 use Rattle.search.specs.Call.{Call, jobOf}
 use Rattle.search.specs.Outcome.{routeAfter}
-use Rattle.search.proofs.Tools.{cond-ind}
 use Rattle.search.proofs.Admitted.{admitted}
 use Rattle.search.proofs.Standing.{first-ok}
 use Rattle.workspace.specs.declared.Size.{Size}
@@ -28,7 +25,7 @@ use Rattle.planner.specs.declared.Query.{Query}
 use Rattle.planner.specs.declared.Standing.{Standing}
 use Rattle.planner.specs.Carried.{Carries, Stands, Settling, Settles}
 use Rattle.planner.specs.Begun.{Called}
-use Rattle.planner.proofs.Jobs.{Accepted, accepts, job-size, job-edges, job-guides, job-start}
+use Rattle.planner.proofs.Jobs.{first-few, Accepted, accepts, job-size, job-edges, job-guides, job-start}
 use Rattle.planner.proofs.Asked.{start-in, work-room}
 
 -- the state at first
@@ -43,11 +40,6 @@ firstState job =
 first-count : (v s : ℕ) → length (atFirst v s) ≡ v
 unfolding atFirst
 first-count v s = rw (length-set, length-replicate)
-
-first-turn : (n : ℕ) → firstTurn n ≤ n
-unfolding firstTurn
-first-turn n =
-    cond-ind (λ (i : ℕ). i ≤ n) (eqb n 0) (λ t. omega arith) (λ t. let k : n ≡ 0 → ⊥ = eqb-no t in omega arith)
 
 module _ (c : Call) (z : Size) (q : Query) (bytes anchor schedule : List ℕ) (at : ℕ) (work route : List ℕ)
     (h : Called c z q bytes anchor schedule at work route) where
@@ -123,7 +115,7 @@ module _ (c : Call) (z : Size) (q : Query) (bytes anchor schedule : List ℕ) (a
             words = words;
             kept = h .route-is;
             progress = progress-is;
-            turn = rw g (unfold firstProgress in (omega (arith, first-turn (q .guides), h .asking .guides)));
+            turn = rw g (unfold firstProgress in (omega (arith, first-few (q .guides), h .asking .guides)));
           }
 
       left-is : q .rounds ≡ length (job .schedule) - firstState job .progress .rounds

@@ -5,13 +5,12 @@ use mathlib.Core.Path.{_≡_, refl, sym, ap, _∙_}
 use mathlib.Core.Bool.{Bool, true, false, cond}
 use mathlib.Core.List.{List, map}
 use lib.ListN.{length, length-map}
-use lib.Dec.{ltb, eqb}
-use borrow.Author.Tests.{eqb-false}
+use lib.Dec.{ltb}
 use Rattle.search.specs.declared.Vertex.{Vertex}
 use Rattle.search.specs.declared.Progress.{Progress}
 use Rattle.search.specs.declared.Step.the-variants.{Finished}
 use Rattle.search.specs.Job.{Job, guides}
-use Rattle.search.specs.Rounds.{State, firstTurn, ended, step, reopened, endRound}
+use Rattle.search.specs.Rounds.{State, ended, step, reopened, endRound}
 use Rattle.search.specs.Call.{Call, jobOf}
 use Rattle.search.specs.Outcome.{routeAfter}
 use Rattle.search.proofs.Admitted.{admitted}
@@ -24,16 +23,8 @@ use Rattle.incumbent.specs.Kept.{tracedIn, tracedCost, keptCost, keptRoute}
 use Rattle.incumbent.proofs.Ended.{ends-cost, ends-route}
 use Rattle.planner.specs.declared.Query.{Query}
 use Rattle.planner.specs.Carried.{Asking, Carries}
-use Rattle.planner.proofs.Jobs.{job-guides, job-start, job-goal}
+use Rattle.planner.proofs.Jobs.{first-few, job-guides, job-start, job-goal}
 use Rattle.planner.proofs.Asked.{rounds-few}
-
-first-few : (n : ℕ) → firstTurn n ≤ n
-unfolding firstTurn
-first-few n = by (eqb n 0) refl
-  where
-    by : (t : Bool) → eqb n 0 ≡ t → cond t 0 1 ≤ n
-    by true e = omega arith
-    by false e = let k : n ≡ 0 → ⊥ = eqb-false n 0 e in omega arith
 
 module _ (c : Call) (z : Size) (q : Query) (s : State) (p : Progress) (work route : List ℕ) (a : Asking c z q) (k : Carries c z s p work route)
     (more : s .progress .rounds < length (jobOf c .schedule)) (fin : step (jobOf c) s ≡ Finished) where

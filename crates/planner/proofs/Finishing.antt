@@ -1,17 +1,13 @@
 -- The answer, by the record of the search in hand and by route memory. Assumes nothing.
-use Prim.Native.Nat.{ℕ, zero, suc, _+_, _-_, _*_, _≤_, _<_}
-use native.Mathlib.Nat.{zero-add, suc-add, mul-le-mul-left, mul-le-mul-right}
-use native.Mathlib.Numerals.{add-one}
+use Prim.Native.Nat.{ℕ, _-_, _*_, _≤_, _<_}
+use native.Mathlib.Nat.{mul-le-mul-left, mul-le-mul-right}
 use native.Mathlib.Omega.{arith}
 use mathlib.Core.Path.{_≡_, refl, sym, ap, _∙_, subst}
 use mathlib.Core.Bool.{Bool, true, false, cond}
-use mathlib.Core.List.{List, [], _∷_, _++_, List·Memᴰ, List·Memᴰ·head, List·Memᴰ·tail, List·Memᴰ·not-nil}
-use lib.ListN.{length, getD, drop, replicate}
-use lib.Seq.{drop-cons}
+use mathlib.Core.List.{List}
+use lib.ListN.{length, getD, take}
 use lib.Dec.{eqb}
 use borrow.Author.Tests.{eq-eqb, ne-eqb, eqb-false}
-use Rattle.graph.specs.declared.Edge.{Edge}
-use Rattle.graph.specs.Lists.{over}
 use Rattle.search.specs.declared.Factors.{Factors}
 use Rattle.search.specs.declared.Progress.{Progress}
 use Rattle.search.specs.declared.Step.{Step}
@@ -20,82 +16,23 @@ use Rattle.search.specs.declared.Summary.{Summary}
 use Rattle.search.specs.declared.Answer.{Answer}
 use Rattle.search.specs.declared.Answer.the-variants.{Route, NoRoute, Unfinished}
 use Rattle.search.specs.Bounds.{maxFactor}
-use Rattle.search.specs.Walk.{Walk, here, along}
 use Rattle.search.specs.Job.{Job, factors, house, routeEnd}
 use Rattle.search.specs.Rounds.{State, Stand}
 use Rattle.search.specs.Call.{Call, inForce, pairs, jobOf}
-use Rattle.search.specs.Outcome.{bound, summary, cutShort, answerAt, answerOf, routeWords, routeAfter}
+use Rattle.search.specs.Outcome.{bound, summary, cutShort, answerAt, answerOf}
 use Rattle.search.proofs.Facts.{Valid, InRange}
 use Rattle.search.proofs.Admitted.{admitted}
+use Rattle.search.proofs.Incumbent as kept
 use Rattle.search.proofs.Standing.{Says}
 use Rattle.workspace.specs.declared.Size.{Size}
+use Rattle.incumbent.specs.Kept.{upToEnd}
+use Rattle.incumbent.proofs.Counted.{walk-below, incumbent-length}
 use Rattle.planner.specs.declared.Query.{Query}
 use Rattle.planner.specs.declared.Standing.{Standing}
 use Rattle.planner.specs.Carried.{Asking, Carries}
-use Rattle.planner.specs.Finished.{routeLength, factorsIn, summaryIn, cutIn, Figured, AtEnd}
+use Rattle.planner.specs.Finished.{factorsIn, summaryIn, cutIn, Figured, AtEnd}
 use Rattle.planner.proofs.Jobs.{job-factors, job-schedule}
 use Rattle.planner.proofs.Asked.{in-range, route-long, small}
-
--- ---- the loop: n words were tried, and none of them ends the route
-
-abbrev pub Tried : ℕ → List ℕ → ℕ → Type 0
-Tried v ws n = n + routeLength (v - n) (drop n ws) ≡ routeLength v ws
-
-module _ (v : ℕ) (ws : List ℕ) where
-  pub tried-first : Tried v ws 0
-  tried-first = let e : v - 0 ≡ v = omega arith in zero-add _ ∙ ap (λ (i : ℕ). routeLength i ws) e
-
-  module _ (n : ℕ) (t : Tried v ws n) where
-    pub tried-all : v ≤ n → n ≡ routeLength v ws
-    unfolding routeLength
-    tried-all h =
-        let e : v - n ≡ 0 = omega arith in
-        let k : routeLength (v - n) (drop n ws) ≡ 0 = ap (λ (i : ℕ). routeLength i (drop n ws)) e in
-        omega (arith, t)
-
-    module _ (h : n < v) (room : v ≤ length ws) where
-      one-more :
-          (b : Bool) → eqb (getD ws n 0) routeEnd ≡ b →
-          routeLength (v - n) (drop n ws) ≡ cond b 0 (suc (routeLength (v - suc n) (drop (suc n) ws)))
-      unfolding routeLength
-      one-more b e =
-          let k : v - n ≡ suc (v - suc n) = omega arith in rw (k, drop-cons ws n 0 (omega arith), e) refl
-
-      pub tried-end : eqb (getD ws n 0) routeEnd ≡ true → n ≡ routeLength v ws
-      tried-end e = omega (arith, t, one-more true e)
-
-      pub tried-next : eqb (getD ws n 0) routeEnd ≡ false → Tried v ws (n + 1)
-      tried-next e = rw add-one (omega (arith, t, one-more false e))
-
--- ---- the incumbent in route memory
-
--- each of r is below v
-abbrev Vertices : ℕ → List ℕ → Type 0
-Vertices v r = (x : ℕ) → List·Memᴰ x r → x < v
-
-length-filled : (r : List ℕ) (k : ℕ) (rest : List ℕ) → Vertices routeEnd r → routeLength (length r + k) ((r ++ replicate k routeEnd) ++ rest) ≡ length r
-unfolding routeLength
-length-filled [] zero rest b = refl
-length-filled [] (suc k) rest b = rw (zero-add, eq-eqb routeEnd routeEnd refl) refl
-length-filled (x ∷ r) k rest b =
-    let l : x < routeEnd = b x (List·Memᴰ·head refl) in
-    rw (suc-add, ne-eqb x routeEnd (λ e. omega arith)) (ap suc (length-filled r k rest (λ y m. b y (List·Memᴰ·tail m))))
-
--- the length of a route of at most v vertices, laid into route memory
-pub length-laid : (v : ℕ) (r old : List ℕ) → length r ≤ v → Vertices routeEnd r → routeLength v (over (routeWords v r) old) ≡ length r
-unfolding over routeWords
-length-laid v r old h b =
-    let e : length r + (v - length r) ≡ v = omega arith in
-    subst (λ (n : ℕ). routeLength n ((r ++ replicate (v - length r) routeEnd) ++ drop (length (r ++ replicate (v - length r) routeEnd)) old) ≡ length r) e
-    (length-filled r (v - length r) (drop (length (r ++ replicate (v - length r) routeEnd)) old) b)
-
--- a walk's vertices are tails, and its end
-walk-vertices :
-    (v : ℕ) (edges : List Edge) → ((e : Edge) → List·Memᴰ e edges → e .tail < v) → {a b n : ℕ} {r : List ℕ} → b < v → Walk edges a b r n → Vertices v r
-walk-vertices v edges tails h (here a) x (List·Memᴰ·head e) = rw e h
-walk-vertices v edges tails h (here a) x (List·Memᴰ·tail m) = absurd (List·Memᴰ·not-nil m)
-walk-vertices v edges tails h (along d m w) x (List·Memᴰ·head e) = rw e (tails d m)
-walk-vertices v edges tails h (along d m w) x (List·Memᴰ·tail k) = walk-vertices v edges tails h w x k
 
 -- ---- the figures, as the code makes them
 
@@ -112,7 +49,7 @@ module _ (z : Size) (p : Progress) (schedule route : List ℕ) where
         omega (arith, mul-le-mul-left (f .w1) b, mul-le-mul-right maxFactor a)
 
     pub figures-are :
-        (n : ℕ) → n ≡ routeLength (z .vertices) route →
+        (n : ℕ) → n ≡ length (upToEnd (take (z .vertices) route)) →
         _≡_ {A = Summary} (record { cost = p .cost; length = n; rounds = p .rounds; expansions = p .expansions; bound = f .w1 * f .w2 }) (summaryIn z p schedule route)
     unfolding summaryIn
     figures-are n l = rw (l, last-is) refl
@@ -135,22 +72,14 @@ module _ (c : Call) (z : Size) (q : Query) (a : Asking c z q) (s : State) (p : P
   rounds-is : p .rounds ≡ s .progress .rounds
   rounds-is = ap (λ (x : Progress). x .rounds) (k .progress)
 
-  laid-is : 0 < s .progress .rounds → route ≡ over (routeWords (job .size) (s .incumbent)) (c .memory .route)
-  unfolding routeAfter
-  laid-is some = k .kept ∙ rw (ne-eqb (s .progress .rounds) 0 (λ e. omega arith)) refl
-
-  no-end : 0 < s .progress .rounds → Vertices routeEnd (s .incumbent)
+  length-is : 0 < s .progress .rounds → length (upToEnd (take (z .vertices) route)) ≡ length (s .incumbent)
   unfolding routeEnd
-  no-end some x m =
-      let v : Valid job = admitted c (a .admitted) in
-      let w = walk-vertices (job .size) (job .edges) (v .tails) (v .ends) (k .ok .kept .route some .walk) x m in
-      omega (arith, w, a .vertices, small c z q a)
-
-  length-is : 0 < s .progress .rounds → routeLength (z .vertices) route ≡ length (s .incumbent)
   length-is some =
-      ap (routeLength (z .vertices)) (laid-is some)
-      ∙ ap (λ (n : ℕ). routeLength n (over (routeWords (job .size) (s .incumbent)) (c .memory .route))) (a .vertices)
-      ∙ length-laid (job .size) (s .incumbent) (c .memory .route) (k .ok .kept .route some .short) (no-end some)
+      let v : Valid job = admitted c (a .admitted) in
+      let r : kept.Route job (s .incumbent) (s .progress .cost) = k .ok .kept .route some in
+      ap (λ (n : ℕ). length (upToEnd (take n route))) (a .vertices)
+      ∙ incumbent-length job s (c .memory .route) route some (r .short) (walk-below (job .edges) (job .size) (v .heads) (r .walk) (v .starts))
+      (omega (arith, a .vertices, small c z q a)) (k .kept)
 
   factors-are : factorsIn schedule (p .rounds) ≡ factors job (s .progress .rounds - 1)
   unfolding factorsIn

@@ -1,15 +1,28 @@
--- What the job of a call is, by its arguments. Assumes nothing.
+-- What the job of a call is, by its arguments, and whose turn it is. Assumes nothing.
 use Prim.Native.Nat.{ℕ, zero, suc, _+_, _-_, _*_, _≤_, _<_}
 use native.Mathlib.Omega.{arith}
 use mathlib.Core.Path.{_≡_, refl, sym, ap, _∙_, subst}
 use mathlib.Core.List.{List, [], _∷_}
 use lib.ListN.{length, getD}
+use lib.Dec.{eqb, ltb}
+use mir.Facts.{eqb-no, ltb-yes}
 use Rattle.graph.specs.declared.Edge.{Edge}
 use Rattle.graph.specs.Plan.{Decoded, accepted, refused, decode}
 use Rattle.graph.specs.Lists.{none, fault, edgesIn}
 use Rattle.search.specs.declared.Factors.{Factors}
 use Rattle.search.specs.Job.{Job, guides, heuristic, factors, house}
+use Rattle.search.specs.Rounds.{firstTurn, nextTurn}
+use Rattle.search.proofs.Tools.{cond-ind}
 use Rattle.search.specs.Call.{Call, inForce, pairs, tables, faultIn, faultOf, jobIn, jobFrom, jobOf}
+
+-- whose turn it is, of n guides
+pub first-few : (n : ℕ) → firstTurn n ≤ n
+unfolding firstTurn
+first-few n = cond-ind (λ (i : ℕ). i ≤ n) (eqb n 0) (λ t. omega arith) (λ t. let k : n ≡ 0 → ⊥ = eqb-no t in omega arith)
+
+pub next-few : (n i : ℕ) → nextTurn n i ≤ n
+unfolding nextTurn
+next-few n i = cond-ind (λ (j : ℕ). j ≤ n) (ltb i n) (λ t. ltb-yes t) (λ t. first-few n)
 
 -- whatever the plan is
 module _ (c : Call) where

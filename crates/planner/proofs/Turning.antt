@@ -2,11 +2,8 @@
 use Prim.Native.Nat.{ℕ, zero, suc, _+_, _-_, _*_, _≤_, _<_}
 use native.Mathlib.Omega.{arith}
 use mathlib.Core.Path.{_≡_, refl, sym, ap, _∙_, subst}
-use mathlib.Core.Bool.{Bool, true, false, cond}
 use mathlib.Core.List.{List, [], _∷_, _++_, append-nil}
 use lib.ListN.{length, getD, set, length-append}
-use lib.Dec.{ltb, eqb}
-use borrow.Author.Tests.{ltb-true, eqb-false}
 use Rattle.graph.specs.declared.Edge.{Edge}
 use Rattle.search.specs.declared.Vertex.{Vertex}
 use Rattle.search.specs.declared.Factors.{Factors}
@@ -16,7 +13,7 @@ use Rattle.search.specs.declared.Step.{Step}
 use Rattle.search.specs.declared.Step.the-variants.{Stuck, Finished, Due}
 use Rattle.search.specs.Job.{Job, guides, heuristic, factors, house}
 use Rattle.search.specs.Turn.{candidate, choose, expand}
-use Rattle.search.specs.Rounds.{State, Stand, Moment, firstTurn, nextTurn, turned, inHand, choice, turn, settle, settled, advance, run, moments}
+use Rattle.search.specs.Rounds.{State, Stand, Moment, turned, inHand, choice, turn, settle, settled, advance, run, moments}
 use Rattle.search.specs.Call.{Call, inForce, pairs, tables, jobOf}
 use Rattle.search.specs.Outcome.{routeAfter, logWord, logAfter}
 use Rattle.search.specs.Bounds.{maxFactor, maxKey}
@@ -33,21 +30,9 @@ use Rattle.expansion.proofs.Keys.{candidate-sheet}
 use Rattle.planner.specs.declared.Query.{Query}
 use Rattle.planner.specs.declared.Standing.{Standing}
 use Rattle.planner.specs.Carried.{Asking, Given, Carries, Stands, Reaches, Settling, Settles, Advancing, Advances}
-use Rattle.planner.proofs.Jobs.{job-heuristics, job-factors, job-guides, job-schedule}
+use Rattle.planner.proofs.Jobs.{next-few, job-heuristics, job-factors, job-guides, job-schedule}
 use Rattle.planner.proofs.Asked.{small, few, sheets-long, in-range}
 use Rattle.planner.proofs.Logging.{log-more}
-
-next-few : (n i : ℕ) → nextTurn n i ≤ n
-unfolding nextTurn firstTurn
-next-few n i = by (ltb i n) refl
-  where
-    first : (t : Bool) → eqb n 0 ≡ t → cond t 0 1 ≤ n
-    first true e = omega arith
-    first false e = let k : n ≡ 0 → ⊥ = eqb-false n 0 e in omega arith
-
-    by : (t : Bool) → ltb i n ≡ t → cond t (suc i) (cond (eqb n 0) 0 1) ≤ n
-    by true e = let l : i < n = ltb-true i n e in omega arith
-    by false e = first (eqb n 0) refl
 
 -- a turn that is due
 module _ (c : Call) (z : Size) (q : Query) (y : Stand) (ts : List Moment) (s : Standing) (anchor guides′ schedule work route log : List ℕ)

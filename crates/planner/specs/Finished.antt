@@ -1,9 +1,9 @@
 -- The search at its end, as its answer: for the contracts of the planner's own functions, nothing that a reader must believe.
-use Prim.Native.Nat.{ℕ, zero, suc, _-_, _*_, _≤_, _<_}
+use Prim.Native.Nat.{ℕ, _-_, _*_, _≤_, _<_}
 use mathlib.Core.Path.{_≡_}
 use mathlib.Core.Bool.{cond}
-use mathlib.Core.List.{List, [], _∷_}
-use lib.ListN.{length, getD}
+use mathlib.Core.List.{List}
+use lib.ListN.{length, getD, take}
 use lib.Dec.{eqb}
 use Rattle.graph.specs.Lists.{none}
 use Rattle.search.specs.declared.Factors.{Factors}
@@ -12,22 +12,17 @@ use Rattle.search.specs.declared.Summary.{Summary}
 use Rattle.search.specs.declared.Answer.{Answer}
 use Rattle.search.specs.declared.Answer.the-variants.{Route, Unfinished}
 use Rattle.search.specs.Bounds.{maxFactor}
-use Rattle.search.specs.Job.{house, routeEnd}
+use Rattle.search.specs.Job.{house}
 use Rattle.search.specs.Rounds.{Stand}
 use Rattle.search.specs.Call.{Call, inForce, pairs, faultOf, jobOf}
 use Rattle.search.specs.Outcome.{answerOf}
 use Rattle.search.proofs.Standing.{Good}
 use Rattle.workspace.specs.declared.Size.{Size}
+use Rattle.incumbent.specs.Kept.{upToEnd}
 use Rattle.planner.specs.declared.Standing.{Standing}
 use Rattle.planner.specs.Carried.{Stands}
 
 -- ---- the figures, by the record and by lent memory
-
--- the number of words before the first that ends a route, among the first v
-unfoldable pub routeLength : ℕ → List ℕ → ℕ
-routeLength zero ws = 0
-routeLength (suc v) [] = 0
-routeLength (suc v) (w ∷ ws) = cond (eqb w routeEnd) 0 (suc (routeLength v ws))
 
 -- the factors of finished round number r, counted from 1
 unfoldable pub factorsIn : List ℕ → ℕ → Factors
@@ -37,7 +32,7 @@ unfoldable pub summaryIn : Size → Progress → List ℕ → List ℕ → Summa
 summaryIn z p schedule route =
     record {
       cost = p .cost;
-      length = routeLength (z .vertices) route;
+      length = length (upToEnd (take (z .vertices) route));
       rounds = p .rounds;
       expansions = p .expansions;
       bound = factorsIn schedule (p .rounds) .w1 * factorsIn schedule (p .rounds) .w2;

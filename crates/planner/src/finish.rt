@@ -1,47 +1,22 @@
 // The answer: the record of the search in hand, and the incumbent in route memory, as figures.
 ghost use mathlib.Core.Path.{_≡_};
-ghost use Prim.Native.Nat.{_<_, _≤_};
-ghost use lib.ListN.{length, getD};
-ghost use lib.Dec.{eqb};
-ghost use Rattle.search.specs.Job.{routeEnd};
-ghost use Rattle.planner.specs.Finished.{routeLength, summaryIn, cutIn, Figured, Finishing, Finishes};
+ghost use Prim.Native.Nat.{_<_};
+ghost use Rattle.planner.specs.Finished.{summaryIn, cutIn, Figured, Finishing, Finishes};
 use crate::Standing;
 use admission::schedule;
+use incumbent::kept;
 use search::Answer;
 use search::Progress;
 use search::Step;
 use search::Summary;
 use workspace::Size;
 
-// Whether word i of route memory ends a route.
-fn ends_at(route: &[u32], i: u32) -> bool
-    requires { ⌜ i < length (now route) ⌝ }
-    ensures { λ r. ⌜ r ≡ eqb (getD (now (route .entry)) i 0) routeEnd ⌝ }
-{
-    route[i as usize] == incumbent::ROUTE_END
-}
-
-// How many of the first v words stand before the one that ends the route.
-fn route_length(route: &[u32], v: u32) -> u32
-    requires { ⌜ v ≤ length (now route) ⌝ }
-    ensures { λ r. ⌜ r ≡ routeLength v (now (route .entry)) ⌝ }
-{
-    let mut n: u32 = 0;
-    while n < v {
-        if ends_at(route, n) {
-            return n;
-        }
-        n += 1;
-    }
-    n
-}
-
 // The figures of the incumbent, where a round is finished: the bound is that of the last one.
 fn summary(route: &[u32], schedule: &[u32], z: Size, p: Progress) -> Summary
     requires { ⌜ Figured z p (now schedule) (now route) × (0 < p .rounds) ⌝ }
     ensures { λ r. ⌜ r ≡ summaryIn z p (now (schedule .entry)) (now (route .entry)) ⌝ }
 {
-    let length = route_length(route, z.vertices);
+    let length = kept::route_length(route, z.vertices);
     let f = schedule::factors(schedule, p.rounds - 1);
     let bound = f.w1 * f.w2;
     Summary {

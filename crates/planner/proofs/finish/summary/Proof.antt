@@ -7,7 +7,7 @@ use Rattle.planner.proofs.finish.summary.Tie as tie
 use Rattle.planner.proofs.finish.summary.Reads as reads
 use Rattle.planner.proofs.finish.summary.Lts as lts
 use Rattle.admission.proofs.schedule.factors.Reads as factors-reads
-use Rattle.planner.proofs.finish.route_length.Reads as route-length-reads
+use Rattle.incumbent.proofs.kept.route_length.Reads as route-length-reads
 
 -- src/finish.rt:44:9
 route-length-requires : tie.Need-route-length-requires
