@@ -18,7 +18,7 @@ fn relax(work: &mut [u32], z: Size, s: u32, g: u64, e: Edge)
     let x = layout::load(work, z, head);
     let c = g + (cost as u64);
     if c < x.g {
-        layout::store(work, z, head, x.lowered(c, s));
+        layout::store(work, z, head, vertices::lowered(x, c, s));
     }
 }
 
@@ -43,6 +43,6 @@ pub fn expand(work: &mut [u32], z: Size, i: u32, s: u32)
 {
     let x = layout::load(work, z, s);
     let g = x.g;
-    layout::store(work, z, s, x.marked(i));
+    layout::store(work, z, s, vertices::marked(x, i));
     relax_all(work, z, s, g);
 }

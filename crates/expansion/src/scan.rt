@@ -5,10 +5,10 @@ ghost use lib.ListN.{length, getD};
 ghost use Rattle.search.specs.Job.{at};
 ghost use Rattle.search.specs.Turn.{key, offered, better, least};
 ghost use Rattle.search.specs.Bounds.{maxFactor, Within};
-ghost use Rattle.search.specs.Lead.{bestOf};
+ghost use Rattle.rules.specs.Lead.{bestOf};
 ghost use Rattle.workspace.specs.Layout.{Room, verticesOf};
 use search::Best;
-use search::rules::Lead;
+use rules::Lead;
 use workspace::Size;
 use workspace::layout;
 
@@ -19,8 +19,8 @@ fn consider(work: &[u32], numbers: &[u32], z: Size, i: u32, w1: u32, s: u32, lea
 {
     let h = numbers[s as usize];
     let x = layout::load(work, z, s);
-    if x.offered(i, h) {
-        return lead.better(x.key(w1, h), s);
+    if vertices::offered(x, i, h) {
+        return lead.better(vertices::key(x, w1, h), s);
     }
     lead
 }

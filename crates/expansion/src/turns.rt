@@ -13,7 +13,6 @@ use search::Best;
 use search::Choice;
 use search::Factors;
 use search::Step;
-use search::rules;
 use workspace::Size;
 use workspace::layout;
 

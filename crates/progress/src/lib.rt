@@ -5,7 +5,6 @@ ghost use Prim.Native.Nat.{_<_};
 ghost use Rattle.search.specs.Rounds.{turned, ended};
 ghost use Rattle.progress.specs.Moved.{firstProgress, turnAfter, counted, moved, maxCount};
 use search::Progress;
-use search::rules;
 
 // The record at first.
 pub fn at_first(guides: u32) -> Progress

@@ -22,7 +22,7 @@ pub fn at_first(work: &mut [u32], z: Size, start: u32)
         words::put(work, z, p, Vertex::fresh());
         p += 1;
     }
-    words::put(work, z, start, Vertex::origin());
+    words::put(work, z, start, vertices::origin());
 }
 
 // Vertex p at a round's beginning.
@@ -31,7 +31,7 @@ fn reopen_one(work: &mut [u32], z: Size, p: u32)
     ensures { λ _. ⌜ now (work .exit) ≡ written z (set (verticesOf z (now (work .entry))) p (reopened (at (verticesOf z (now (work .entry))) p))) (now (work .entry)) ⌝ }
 {
     let x = layout::load(work, z, p);
-    layout::store(work, z, p, x.reopened());
+    layout::store(work, z, p, vertices::reopened(x));
 }
 
 // All vertices at a round's beginning.

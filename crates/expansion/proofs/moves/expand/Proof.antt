@@ -6,7 +6,7 @@ use Rattle.expansion.proofs.moves.expand.Tie as tie
 use Rattle.expansion.proofs.moves.expand.Reads as reads
 use Rattle.expansion.proofs.moves.expand.Lts as lts
 use Rattle.expansion.proofs.moves.relax_all.Reads as relax-all-reads
-use Rattle.search.proofs.Vertex.marked.Reads as marked-reads
+use Rattle.vertices.proofs.marked.Reads as marked-reads
 use Rattle.workspace.proofs.layout.load.Reads as load-reads
 use Rattle.workspace.proofs.layout.store.Reads as store-reads
 

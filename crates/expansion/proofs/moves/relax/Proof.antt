@@ -7,7 +7,7 @@ use Rattle.expansion.proofs.moves.relax.Statement.{statement}
 use Rattle.expansion.proofs.moves.relax.Tie as tie
 use Rattle.expansion.proofs.moves.relax.Reads as reads
 use Rattle.expansion.proofs.moves.relax.Lts as lts
-use Rattle.search.proofs.Vertex.lowered.Reads as lowered-reads
+use Rattle.vertices.proofs.lowered.Reads as lowered-reads
 use Rattle.workspace.proofs.layout.load.Reads as load-reads
 use Rattle.workspace.proofs.layout.store.Reads as store-reads
 

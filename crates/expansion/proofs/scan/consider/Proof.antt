@@ -6,9 +6,9 @@ use Rattle.expansion.proofs.scan.consider.Statement.{statement}
 use Rattle.expansion.proofs.scan.consider.Tie as tie
 use Rattle.expansion.proofs.scan.consider.Reads as reads
 use Rattle.expansion.proofs.scan.consider.Lts as lts
-use Rattle.search.proofs.Vertex.key.Reads as key-reads
-use Rattle.search.proofs.Vertex.offered.Reads as offered-reads
-use Rattle.search.proofs.rules.Lead.better.Reads as better-reads
+use Rattle.vertices.proofs.key.Reads as key-reads
+use Rattle.vertices.proofs.offered.Reads as offered-reads
+use Rattle.rules.proofs.Lead.better.Reads as better-reads
 use Rattle.workspace.proofs.layout.load.Reads as load-reads
 
 -- src/scan.rt:28:13

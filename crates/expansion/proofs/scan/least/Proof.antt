@@ -1,6 +1,6 @@
 -- `least` meets its contract: the best of the first s vertices, and of all. Assumes nothing.
 use Prim.Native.Nat.{_-_}
-use Rattle.search.specs.Lead.{bestOf}
+use Rattle.rules.specs.Lead.{bestOf}
 use Rattle.expansion.proofs.Keys.{Scanned, scanned-none, scanned-next, scanned-all}
 use borrow.Author.Needs.{needs}
 use Rattle.expansion.proofs.scan.least.Statement.{statement}
@@ -8,8 +8,8 @@ use Rattle.expansion.proofs.scan.least.Tie as tie
 use Rattle.expansion.proofs.scan.least.Reads as reads
 use Rattle.expansion.proofs.scan.least.Lts as lts
 use Rattle.expansion.proofs.scan.consider.Reads as consider-reads
-use Rattle.search.proofs.rules.Lead.best.Reads as best-reads
-use Rattle.search.proofs.rules.Lead.none.Reads as none-reads
+use Rattle.rules.proofs.Lead.best.Reads as best-reads
+use Rattle.rules.proofs.Lead.none.Reads as none-reads
 
 abbrev Inv-loop : tie.InvT-loop
 Inv-loop work numbers z i w1 vertices lead₀ s₀ lead s = Scanned z work numbers i w1 s (bestOf lead)

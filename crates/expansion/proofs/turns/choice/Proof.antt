@@ -7,7 +7,7 @@ use Rattle.expansion.proofs.turns.choice.Tie as tie
 use Rattle.expansion.proofs.turns.choice.Reads as reads
 use Rattle.expansion.proofs.turns.choice.Lts as lts
 use Rattle.expansion.proofs.turns.candidate.Reads as candidate-reads
-use Rattle.search.proofs.rules.choose.Reads as choose-reads
+use Rattle.rules.proofs.choose.Reads as choose-reads
 
 -- src/turns.rt:62:9
 candidate-requires : tie.Need-candidate-requires

@@ -6,7 +6,7 @@ use Rattle.expansion.proofs.turns.step.Tie as tie
 use Rattle.expansion.proofs.turns.step.Reads as reads
 use Rattle.expansion.proofs.turns.step.Lts as lts
 use Rattle.expansion.proofs.scan.least.Reads as least-reads
-use Rattle.search.proofs.rules.step_one.Reads as step-one-reads
+use Rattle.rules.proofs.step_one.Reads as step-one-reads
 use Rattle.workspace.proofs.layout.load.Reads as load-reads
 
 -- src/turns.rt:27:9

@@ -6,7 +6,7 @@ use Rattle.search.proofs.Vertex.fresh.Tie as tie
 use Rattle.search.proofs.Vertex.fresh.Reads as reads
 use Rattle.search.proofs.Vertex.fresh.Lts as lts
 
--- src/vertices.rt:13:5
+-- src/lib.rt:13:5
 returns : tie.Need-returns
 unfolding fresh unreached noPred
 returns c = search needs

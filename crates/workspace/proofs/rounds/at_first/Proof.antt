@@ -13,7 +13,7 @@ use Rattle.workspace.proofs.rounds.at_first.Tie as tie
 use Rattle.workspace.proofs.rounds.at_first.Reads as reads
 use Rattle.workspace.proofs.rounds.at_first.Lts as lts
 use Rattle.search.proofs.Vertex.fresh.Reads as fresh-reads
-use Rattle.search.proofs.Vertex.origin.Reads as origin-reads
+use Rattle.vertices.proofs.origin.Reads as origin-reads
 use Rattle.workspace.proofs.words.put.Reads as put-reads
 
 abbrev Inv-loop : tie.InvT-loop

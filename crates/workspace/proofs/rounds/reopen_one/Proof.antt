@@ -5,7 +5,7 @@ use Rattle.workspace.proofs.rounds.reopen_one.Statement.{statement}
 use Rattle.workspace.proofs.rounds.reopen_one.Tie as tie
 use Rattle.workspace.proofs.rounds.reopen_one.Reads as reads
 use Rattle.workspace.proofs.rounds.reopen_one.Lts as lts
-use Rattle.search.proofs.Vertex.reopened.Reads as reopened-reads
+use Rattle.vertices.proofs.reopened.Reads as reopened-reads
 use Rattle.workspace.proofs.layout.load.Reads as load-reads
 use Rattle.workspace.proofs.layout.store.Reads as store-reads
 

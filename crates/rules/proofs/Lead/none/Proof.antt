@@ -1,0 +1,15 @@
+-- `Lead::none` meets its contract. Assumes nothing.
+use Rattle.rules.specs.Lead.{bestOf}
+use borrow.Author.Needs.{needs}
+use Rattle.rules.proofs.Lead.none.Statement.{statement}
+use Rattle.rules.proofs.Lead.none.Tie as tie
+use Rattle.rules.proofs.Lead.none.Reads as reads
+use Rattle.rules.proofs.Lead.none.Lts as lts
+
+-- src/lib.rt:24:5
+returns : tie.Need-returns
+unfolding bestOf
+returns c = search needs
+
+pub none-spec : {M : Type 1} → statement M
+none-spec = tie.close (tie.spec returns)

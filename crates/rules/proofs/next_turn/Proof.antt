@@ -1,0 +1,31 @@
+-- `next_turn` meets its contract. Assumes nothing.
+use native.Mathlib.Numerals.{add-one}
+use borrow.Author.Tests.{lt-ltb, le-ltb}
+use Rattle.search.specs.Rounds.{nextTurn}
+use borrow.Author.Needs.{needs}
+use Rattle.rules.proofs.next_turn.Statement.{statement}
+use Rattle.rules.proofs.next_turn.Tie as tie
+use Rattle.rules.proofs.next_turn.Reads as reads
+use Rattle.rules.proofs.next_turn.Lts as lts
+use Rattle.rules.proofs.first_turn.Reads as first-turn-reads
+
+-- src/lib.rt:86:16
+add-result : tie.Need-add-result
+add-result c = search needs
+
+-- src/lib.rt:86:31
+first-turn-requires : tie.Need-first-turn-requires
+first-turn-requires c κs = search needs
+
+-- src/lib.rt:83:1
+returns : tie.Need-returns
+unfolding nextTurn
+returns c = simp (lt-ltb _ _ (c .if1 .taken), add-one)
+
+-- src/lib.rt:83:1
+returns-2 : tie.Need-returns-2
+unfolding nextTurn
+returns-2 c = simp (le-ltb _ _ (c .before .if1 .left)) (c .first-turn .ensures)
+
+pub next-turn-spec : {M : Type 1} → statement M
+next-turn-spec = tie.close (tie.spec add-result first-turn-requires returns returns-2)
