@@ -7,8 +7,8 @@ ghost use Rattle.search.specs.Turn.{key, offered, better, least};
 ghost use Rattle.search.specs.Bounds.{maxFactor, Within};
 ghost use Rattle.rules.specs.Lead.{bestOf};
 ghost use Rattle.workspace.specs.Layout.{Room, verticesOf};
-use search::Best;
 use rules::Lead;
+use search::Best;
 use workspace::Size;
 use workspace::layout;
 
