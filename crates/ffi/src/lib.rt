@@ -56,7 +56,7 @@ fn of_count(written: PlanWritten) -> [u64; 4]
 pub extern "C" fn secondcoop_read_plan_number(bytes: &[u8], at: usize, figures: &mut [u64; 4])
     ensures { λ r. ⌜ now (figures .exit) ≡ readFigures (read planGroups (now (bytes .entry)) at) ⌝ }
 {
-    *figures = of_read(leb128::read_plan_number(bytes, at));
+    *figures = of_read(leb128_reader::read_plan_number(bytes, at));
 }
 
 // The number of a bench job at an offset.
@@ -64,7 +64,7 @@ pub extern "C" fn secondcoop_read_plan_number(bytes: &[u8], at: usize, figures: 
 pub extern "C" fn secondcoop_read_job_number(bytes: &[u8], at: usize, figures: &mut [u64; 4])
     ensures { λ r. ⌜ now (figures .exit) ≡ readFigures (read jobGroups (now (bytes .entry)) at) ⌝ }
 {
-    *figures = of_read(leb128::read_job_number(bytes, at));
+    *figures = of_read(leb128_reader::read_job_number(bytes, at));
 }
 
 // A plan number written at an offset.
@@ -78,7 +78,7 @@ pub extern "C" fn secondcoop_write_plan_number(
     ensures { λ r. ⌜ now (figures .exit) ≡ writtenFigures (writeAnswer planGroups (now (out .entry)) at value) ⌝ }
     ensures { λ r. ⌜ now (out .exit) ≡ written planGroups (now (out .entry)) at value ⌝ }
 {
-    *figures = of_written(leb128::write_plan_number(out, at, value));
+    *figures = of_written(leb128_writer::write_plan_number(out, at, value));
 }
 
 // A whole plan checked.

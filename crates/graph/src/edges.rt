@@ -78,13 +78,15 @@ impl Cursor {
     {
         let at = self.at;
         let before = self.tail;
-        let NumberRead::Value(difference, head_at) = leb128::read_plan_number(bytes, at) else {
+        let NumberRead::Value(difference, head_at) = leb128_reader::read_plan_number(bytes, at)
+        else {
             return EdgeRead::Fault(1, at);
         };
-        let NumberRead::Value(head, cost_at) = leb128::read_plan_number(bytes, head_at) else {
+        let NumberRead::Value(head, cost_at) = leb128_reader::read_plan_number(bytes, head_at)
+        else {
             return EdgeRead::Fault(1, head_at);
         };
-        let NumberRead::Value(cost, end) = leb128::read_plan_number(bytes, cost_at) else {
+        let NumberRead::Value(cost, end) = leb128_reader::read_plan_number(bytes, cost_at) else {
             return EdgeRead::Fault(1, cost_at);
         };
         let tail = before + difference;

@@ -8,7 +8,7 @@ use leb128::NumberRead;
 pub fn take_vertex_count(bytes: &[u8]) -> Taken
     ensures { λ r. ⌜ r ≡ take (now (bytes .entry)) 0 vertexCountRows ⌝ }
 {
-    let NumberRead::Value(count, next) = leb128::read_plan_number(bytes, 0) else {
+    let NumberRead::Value(count, next) = leb128_reader::read_plan_number(bytes, 0) else {
         return Taken::Bad(1, 0);
     };
     if count == 0 {
@@ -24,7 +24,7 @@ pub fn take_vertex_count(bytes: &[u8]) -> Taken
 pub fn take_edge_count(bytes: &[u8], at: usize) -> Taken
     ensures { λ r. ⌜ r ≡ take (now (bytes .entry)) at edgeCountRows ⌝ }
 {
-    let NumberRead::Value(count, next) = leb128::read_plan_number(bytes, at) else {
+    let NumberRead::Value(count, next) = leb128_reader::read_plan_number(bytes, at) else {
         return Taken::Bad(1, at);
     };
     if crate::MAX_EDGES < count {
@@ -37,7 +37,7 @@ pub fn take_edge_count(bytes: &[u8], at: usize) -> Taken
 pub fn take_tail(bytes: &[u8], at: usize, vertices: u32, tail: u32) -> Taken
     ensures { λ r. ⌜ r ≡ take (now (bytes .entry)) at (tailRows vertices tail) ⌝ }
 {
-    let NumberRead::Value(difference, next) = leb128::read_plan_number(bytes, at) else {
+    let NumberRead::Value(difference, next) = leb128_reader::read_plan_number(bytes, at) else {
         return Taken::Bad(1, at);
     };
     let sum = tail as u64 + difference as u64;
@@ -51,7 +51,7 @@ pub fn take_tail(bytes: &[u8], at: usize, vertices: u32, tail: u32) -> Taken
 pub fn take_head(bytes: &[u8], at: usize, vertices: u32, least: u32) -> Taken
     ensures { λ r. ⌜ r ≡ take (now (bytes .entry)) at (headRows vertices least) ⌝ }
 {
-    let NumberRead::Value(head, next) = leb128::read_plan_number(bytes, at) else {
+    let NumberRead::Value(head, next) = leb128_reader::read_plan_number(bytes, at) else {
         return Taken::Bad(1, at);
     };
     if vertices <= head {
@@ -67,7 +67,7 @@ pub fn take_head(bytes: &[u8], at: usize, vertices: u32, least: u32) -> Taken
 pub fn take_cost(bytes: &[u8], at: usize) -> Taken
     ensures { λ r. ⌜ r ≡ take (now (bytes .entry)) at costRows ⌝ }
 {
-    let NumberRead::Value(cost, next) = leb128::read_plan_number(bytes, at) else {
+    let NumberRead::Value(cost, next) = leb128_reader::read_plan_number(bytes, at) else {
         return Taken::Bad(1, at);
     };
     if crate::MAX_COST < cost {

@@ -54,8 +54,10 @@ fn measure_edge(vertices: u32, cursor: Cursor, i: usize, edge: Edge) -> EdgeRead
     if MAX_COST < edge.cost {
         return EdgeRead::Fault(5, i);
     }
-    let rise = leb128::plan_number_len(edge.tail - cursor.tail);
-    let size = rise + leb128::plan_number_len(edge.head) + leb128::plan_number_len(edge.cost);
+    let rise = leb128_writer::plan_number_len(edge.tail - cursor.tail);
+    let size = rise
+        + leb128_writer::plan_number_len(edge.head)
+        + leb128_writer::plan_number_len(edge.cost);
     let past = Cursor {
         at: cursor.at + size,
         tail: edge.tail,
@@ -112,7 +114,7 @@ fn measure(vertices: u32, tails: &[u32], heads: &[u32], costs: &[u32]) -> PlanWr
         return PlanWritten::Rejected(3, 0);
     }
     let count = tails.len() as u32;
-    let start = leb128::plan_number_len(vertices) + leb128::plan_number_len(count);
+    let start = leb128_writer::plan_number_len(vertices) + leb128_writer::plan_number_len(count);
     measure_edges(vertices, tails, heads, costs, start)
 }
 
@@ -123,13 +125,14 @@ fn lay_edge(out: &mut [u8], at: usize, tail: u32, edge: Edge) -> usize
     ensures { λ _. ⌜ now (out .exit) ≡ sets (now (out .entry)) at (edgeBytes tail edge) ⌝ }
 {
     let rise = edge.tail - tail;
-    let NumberWritten::Next(head_at) = leb128::write_plan_number(out, at, rise) else {
+    let NumberWritten::Next(head_at) = leb128_writer::write_plan_number(out, at, rise) else {
         return at;
     };
-    let NumberWritten::Next(cost_at) = leb128::write_plan_number(out, head_at, edge.head) else {
+    let NumberWritten::Next(cost_at) = leb128_writer::write_plan_number(out, head_at, edge.head)
+    else {
         return at;
     };
-    let NumberWritten::Next(end) = leb128::write_plan_number(out, cost_at, edge.cost) else {
+    let NumberWritten::Next(end) = leb128_writer::write_plan_number(out, cost_at, edge.cost) else {
         return at;
     };
     end
@@ -157,10 +160,11 @@ fn lay(vertices: u32, tails: &[u32], heads: &[u32], costs: &[u32], out: &mut [u8
     ensures { λ _. ⌜ now (out .exit) ≡ over (bytesOf vertices (edgesOf (now (tails .entry)) (now (heads .entry)) (now (costs .entry)))) (now (out .entry)) ⌝ }
 {
     let count = tails.len() as u32;
-    let NumberWritten::Next(count_at) = leb128::write_plan_number(out, 0, vertices) else {
+    let NumberWritten::Next(count_at) = leb128_writer::write_plan_number(out, 0, vertices) else {
         return;
     };
-    let NumberWritten::Next(edges_at) = leb128::write_plan_number(out, count_at, count) else {
+    let NumberWritten::Next(edges_at) = leb128_writer::write_plan_number(out, count_at, count)
+    else {
         return;
     };
     lay_edges(tails, heads, costs, out, edges_at);

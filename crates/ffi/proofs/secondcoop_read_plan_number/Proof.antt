@@ -7,7 +7,7 @@ use Rattle.ffi.proofs.secondcoop_read_plan_number.Tie as tie
 use Rattle.ffi.proofs.secondcoop_read_plan_number.Reads as reads
 use Rattle.ffi.proofs.secondcoop_read_plan_number.Lts as lts
 use Rattle.ffi.proofs.of_read.Reads as of-read-reads
-use Rattle.leb128.proofs.read_plan_number.Reads as read-plan-number-reads
+use Rattle.leb128_reader.proofs.read_plan_number.Reads as read-plan-number-reads
 
 -- src/lib.rt:47:24
 read-plan-number-requires : tie.Need-read-plan-number-requires

@@ -7,7 +7,7 @@ use Rattle.ffi.proofs.secondcoop_write_plan_number.Tie as tie
 use Rattle.ffi.proofs.secondcoop_write_plan_number.Reads as reads
 use Rattle.ffi.proofs.secondcoop_write_plan_number.Lts as lts
 use Rattle.ffi.proofs.of_written.Reads as of-written-reads
-use Rattle.leb128.proofs.write_plan_number.Reads as write-plan-number-reads
+use Rattle.leb128_writer.proofs.write_plan_number.Reads as write-plan-number-reads
 
 -- src/lib.rt:64:27
 write-plan-number-requires : tie.Need-write-plan-number-requires

@@ -8,7 +8,7 @@ use Rattle.graph.proofs.Cursor.step_checked.Statement.{statement}
 use Rattle.graph.proofs.Cursor.step_checked.Tie as tie
 use Rattle.graph.proofs.Cursor.step_checked.Reads as reads
 use Rattle.graph.proofs.Cursor.step_checked.Lts as lts
-use Rattle.leb128.proofs.read_plan_number.Reads as read-plan-number-reads
+use Rattle.leb128_reader.proofs.read_plan_number.Reads as read-plan-number-reads
 
 -- src/edges.rt:81:54
 read-plan-number-requires : tie.Need-read-plan-number-requires

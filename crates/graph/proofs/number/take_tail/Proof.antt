@@ -8,7 +8,7 @@ use Rattle.graph.proofs.number.take_tail.Statement.{statement}
 use Rattle.graph.proofs.number.take_tail.Tie as tie
 use Rattle.graph.proofs.number.take_tail.Reads as reads
 use Rattle.graph.proofs.number.take_tail.Lts as lts
-use Rattle.leb128.proofs.read_plan_number.Reads as read-plan-number-reads
+use Rattle.leb128_reader.proofs.read_plan_number.Reads as read-plan-number-reads
 
 -- src/number.rt:40:47
 read-plan-number-requires : tie.Need-read-plan-number-requires

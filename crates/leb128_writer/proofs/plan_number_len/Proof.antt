@@ -2,11 +2,11 @@
 use native.Mathlib.Omega.{arith}
 use mathlib.Core.Path.{sym, ap}
 use lib.ListN.{length}
 use Rattle.leb128.specs.Number.{planGroups}
 use Rattle.leb128.proofs.Laws.{encode-last, encode-few}
 use Rattle.leb128.proofs.Write.{encode-two, three-or-more}
-use Rattle.leb128.proofs.plan_number_len.Statement.{statement}
-use Rattle.leb128.proofs.plan_number_len.Tie as tie
+use Rattle.leb128_writer.proofs.plan_number_len.Statement.{statement}
+use Rattle.leb128_writer.proofs.plan_number_len.Tie as tie
 
 returns : tie.Need-returns
 unfolding planGroups

@@ -2,11 +2,11 @@
 use Prim.Native.Nat.{_+_}
 use mathlib.Core.Path.{refl}
 use native.Mathlib.Omega.{arith}
 use Rattle.leb128.specs.Number.{planGroups}
 use Rattle.leb128.proofs.ReadAt.{lost-end, lost-none, found-last, found-more, lost-zero, lost-more, answer-value, answer-lost}
 use borrow.Author.Needs.{needs}
-use Rattle.leb128.proofs.read_plan_number.Statement.{statement}
-use Rattle.leb128.proofs.read_plan_number.Tie as tie
+use Rattle.leb128_reader.proofs.read_plan_number.Statement.{statement}
+use Rattle.leb128_reader.proofs.read_plan_number.Tie as tie
 
 returns : tie.Need-returns
 unfolding planGroups

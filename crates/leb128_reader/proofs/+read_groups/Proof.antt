@@ -1,17 +1,17 @@
 -- `read_groups` meets its contract, by the groups left, which fall with each call. Assumes nothing.
 use native.Mathlib.Omega.{arith}
 use mathlib.Core.Path.{_≡_, sym, ap, _∙_}
 use Rattle.leb128.specs.Number.{read}
 use Rattle.leb128.proofs.ReadAt.{lost-end, lost-none, found-last, answer-value, answer-lost, rest-refused, rest-zero, rest-value, rest-wide}
 use borrow.Author.Needs.{needs}
 use Prim.Native.Nat.{ℕ, suc, _+_, _-_, _<_}
 use borrow.Fn.Kinds.{In}
 use borrow.Fn.PlainCycle.{Measures, is, falls, and}
-use Rattle.leb128.proofs.read_groups.Reads as read-groups
-use Rattle.leb128.proofs.read_groups.Kinds as read-groups-kinds
-use Rattle.leb128.proofs.+read_groups.Lts-read_groups as read-groups-lts
-use Rattle.leb128.proofs.+read_groups.{statement}
-use Rattle.leb128.proofs.+read_groups.Tie.{close}
+use Rattle.leb128_reader.proofs.read_groups.Reads as read-groups
+use Rattle.leb128_reader.proofs.read_groups.Kinds as read-groups-kinds
+use Rattle.leb128_reader.proofs.+read_groups.Lts-read_groups as read-groups-lts
+use Rattle.leb128_reader.proofs.+read_groups.{statement}
+use Rattle.leb128_reader.proofs.+read_groups.Tie.{close}
 
 abbrev μ-read-groups : Measures 1 read-groups-kinds.ps ℕ
 μ-read-groups κs a = a .1 .1 .0

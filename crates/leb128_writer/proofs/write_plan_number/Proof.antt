@@ -2,12 +2,12 @@
 use native.Mathlib.Omega.{arith}
 use native.Mathlib.Numerals.{add-one}
 use lib.ListN.{length-set}
 use Rattle.leb128.specs.Number.{planGroups}
 use Rattle.leb128.proofs.Laws.{encode-last, encode-some}
 use Rattle.leb128.proofs.Write.{add-two, encode-two, encode-three, two-or-more, three-or-more, too-large, no-room, room}
 use borrow.Author.Needs.{needs}
-use Rattle.leb128.proofs.write_plan_number.Statement.{statement}
-use Rattle.leb128.proofs.write_plan_number.Tie as tie
+use Rattle.leb128_writer.proofs.write_plan_number.Statement.{statement}
+use Rattle.leb128_writer.proofs.write_plan_number.Tie as tie
 
 returns : tie.Need-returns
 unfolding planGroups
