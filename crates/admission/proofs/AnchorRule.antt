@@ -17,8 +17,8 @@ use Rattle.graph.specs.Lists.{fault, edgesIn}
 use Rattle.graph.specs.OneForm.{EdgeWithin}
 use Rattle.graph.proofs.OneEdge.{read-edge, edge-passes, passes-within}
 use Rattle.graph.proofs.Plan.{First}
-use Rattle.graph.proofs.Filling as filling
-use Rattle.graph.proofs.Filling.{sized-by, Stored, stored-none, stored-next}
+use Rattle.cursor.proofs.Stored as laws
+use Rattle.cursor.proofs.Stored.{sized-by, Stored, stored-none, stored-next}
 use Rattle.search.specs.Call.{edgesRow}
 use Rattle.admission.specs.declared.Tried.{Tried}
 use Rattle.admission.specs.declared.Tried.the-variants.{Holds, Breaks}
@@ -74,7 +74,7 @@ module _ (v m : ℕ) (s : List ℕ) (at : ℕ) (h : List ℕ) where
 
   module _ (i : ℕ) (c : Cursor) (more : i < m) (k : Kept v m s at h i c) (t : Tried) (e : t ≡ tried h (nextEdge v s c)) where
     abbrev f : First v (m - suc i) s c v (edgesIn (edgesFrom v (m - i) s c))
-    f = filling.first v m s at i c more (k .stored)
+    f = laws.first v m s at i c more (k .stored)
 
     is-cond : t ≡ cond (breaks h (f .edge)) Breaks (Holds (f .after))
     unfolding tried

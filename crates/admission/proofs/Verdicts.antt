@@ -16,7 +16,7 @@ use Rattle.graph.specs.declared.PlanRead.the-variants as plan
 use Rattle.graph.specs.Plan.{Decoded, accepted, refused, header, afterHeader, decode, firstAt, edgesFrom, sizes}
 use Rattle.graph.specs.Lists.{Fault, none, fault, edgesIn}
 use Rattle.graph.proofs.Tests.{or-right, and-true, not-false}
-use Rattle.graph.proofs.Filling.{sized-by}
+use Rattle.cursor.proofs.Stored.{sized-by}
 use Rattle.search.specs.Job.{house}
 use Rattle.search.specs.Call.{inForce, row, first, endsRow, tablesRow, scheduleRow, memoryRow, goalRow, edgesRow, faultIn, faultOf, jobIn, jobFrom, jobOf}
 use Rattle.admission.specs.declared.Verdict.{Verdict}

@@ -34,7 +34,7 @@ fn try_edge(bytes: &[u8], vertices: u32, anchor: &[u32], cursor: Cursor) -> Trie
     requires { ⌜ length (now anchor) ≡ vertices ⌝ }
     ensures { λ r. ⌜ r ≡ steps.tried (now (anchor .entry)) (nextEdge vertices (now (bytes .entry)) cursor) ⌝ }
 {
-    let EdgeRead::Next(edge, next) = cursor.step(bytes, vertices) else {
+    let EdgeRead::Next(edge, next) = cursor::step(cursor, bytes, vertices) else {
         return Tried::Breaks;
     };
     if breaks(edge, anchor) {
@@ -51,7 +51,7 @@ fn edges_verdict(bytes: &[u8], vertices: u32, edges: u32, at: usize, anchor: &[u
     ensures { λ r. ⌜ r ≡ verdict vertices edges (edgesRow (now (anchor .entry)) 0 (edgesIn (edgesFrom vertices edges (now (bytes .entry)) (firstAt at)))) ⌝ }
 {
     let count = edges as usize;
-    let mut cursor = Cursor::first(at);
+    let mut cursor = cursor::first(at);
     let mut i = 0;
     while i < count {
         let Tried::Holds(next) = try_edge(bytes, vertices, anchor, cursor) else {

@@ -7,10 +7,10 @@ mod consistency;
 mod rows;
 pub mod schedule;
 
+use cursor::check;
 use graph::Cursor;
 use graph::Header;
 use graph::PlanRead;
-use graph::check;
 
 // What is decided of a call: it is admitted, with V and M; or refused, number and position.
 pub enum Verdict {

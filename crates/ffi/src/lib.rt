@@ -86,7 +86,7 @@ pub extern "C" fn secondcoop_write_plan_number(
 pub extern "C" fn secondcoop_check_plan(bytes: &[u8], figures: &mut [u64; 4])
     ensures { λ r. ⌜ now (figures .exit) ≡ planFigures (sizes (decode (now (bytes .entry)))) ⌝ }
 {
-    *figures = of_plan(graph::check::check(bytes));
+    *figures = of_plan(cursor::check::check(bytes));
 }
 
 // A plan read into three lists.
@@ -103,7 +103,7 @@ pub extern "C" fn secondcoop_read_plan(
     ensures { λ r. ⌜ now (heads .exit) ≡ listAfter headOf (now (bytes .entry)) (now (heads .entry)) (readAnswer (now (bytes .entry)) (now (tails .entry)) (now (heads .entry)) (now (costs .entry))) ⌝ }
     ensures { λ r. ⌜ now (costs .exit) ≡ listAfter costOf (now (bytes .entry)) (now (costs .entry)) (readAnswer (now (bytes .entry)) (now (tails .entry)) (now (heads .entry)) (now (costs .entry))) ⌝ }
 {
-    *figures = of_plan(graph::read::read(bytes, tails, heads, costs));
+    *figures = of_plan(graph_reader::read(bytes, tails, heads, costs));
 }
 
 // A plan written from V and three lists.
@@ -119,5 +119,5 @@ pub extern "C" fn secondcoop_write_plan(
     ensures { λ r. ⌜ now (figures .exit) ≡ countFigures (lists.writeAnswer vertices (now (tails .entry)) (now (heads .entry)) (now (costs .entry)) (now (out .entry))) ⌝ }
     ensures { λ r. ⌜ now (out .exit) ≡ lists.outAfter vertices (now (tails .entry)) (now (heads .entry)) (now (costs .entry)) (now (out .entry)) (lists.writeAnswer vertices (now (tails .entry)) (now (heads .entry)) (now (costs .entry)) (now (out .entry))) ⌝ }
 {
-    *figures = of_count(graph::write::write(vertices, tails, heads, costs, out));
+    *figures = of_count(graph_writer::write(vertices, tails, heads, costs, out));
 }

@@ -2,12 +2,7 @@ pub mod Tests
 pub mod Rows
 pub mod Sorted
 pub mod OneEdge
-pub mod Reading
-pub mod Checked
-pub mod Filling
 pub mod Plan
 pub mod Within
 pub mod OneForm
-pub mod Measuring
-pub mod Laying
-pub mod Writer
+pub mod Over

@@ -3,5 +3,3 @@ pub mod Rows
 pub mod Plan
 pub mod Lists
 pub mod OneForm
-pub mod Steps
-pub mod Writing

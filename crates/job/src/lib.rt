@@ -5,8 +5,8 @@ pub mod numbers;
 
 ghost use mathlib.Core.Path.{_≡_};
 ghost use Rattle.job.specs.Reading.{jobRead, afterPlan, afterSizes};
+use cursor::check;
 use graph::PlanRead;
-use graph::check;
 
 // The limits of a job: its bytes, vertices (places) and edges (lanes), rounds and guides.
 pub const MAX_BYTES: usize = 32768;

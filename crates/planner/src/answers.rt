@@ -6,8 +6,8 @@ use crate::begin;
 use crate::finish;
 use crate::turns;
 use admission::Verdict;
+use cursor::check;
 use graph::Header;
-use graph::check;
 use search::Answer;
 use workspace::Size;
 

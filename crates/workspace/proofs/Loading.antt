@@ -14,10 +14,10 @@ use Rattle.graph.specs.declared.EdgeRead.the-variants.{Next, Fault}
 use Rattle.graph.specs.declared.PlanRead.the-variants.{Sizes}
 use Rattle.graph.specs.Plan.{accepted, firstAt, past, nextEdge, edgesFrom, sizes}
 use Rattle.graph.specs.Lists.{headOf, costOf, over, edgesIn}
-use Rattle.graph.specs.Steps.{cursorPast}
+use Rattle.cursor.specs.Steps.{cursorPast}
 use Rattle.graph.proofs.OneEdge.{Read, read-edge, edge-passes, passes-within}
 use Rattle.graph.proofs.Plan.{First, Accepts, accepts}
-use Rattle.graph.proofs.Filling.{Stored, stored-none, stored-next, first, cursor-next, sized-by}
+use Rattle.cursor.proofs.Stored.{Stored, stored-none, stored-next, first, cursor-next, sized-by}
 use Rattle.search.specs.Outcome.{firstEdges}
 use Rattle.workspace.specs.declared.Size.{Size}
 use Rattle.workspace.specs.Layout.{base, graphWords}

@@ -6,7 +6,7 @@ ghost use lib.Seq.{sets};
 ghost use Rattle.graph.specs.declared.PlanRead.the-variants.{Sizes};
 ghost use Rattle.graph.specs.Plan.{firstAt, nextEdge, edgesFrom, sizes};
 ghost use Rattle.graph.specs.Lists.{over, edgesIn};
-ghost use Rattle.graph.specs.Steps.{cursorPast};
+ghost use Rattle.cursor.specs.Steps.{cursorPast};
 ghost use Rattle.workspace.specs.Layout.{base, graphWords};
 ghost use Rattle.workspace.specs.Steps.{edgeStored};
 use crate::Size;
@@ -33,7 +33,7 @@ fn load_edge(bytes: &[u8], work: &mut [u32], z: Size, cursor: Cursor, j: u32) ->
 {
     let vertices = z.vertices;
     let edges = z.edges;
-    let EdgeRead::Next(edge, next) = cursor.step(bytes, vertices) else {
+    let EdgeRead::Next(edge, next) = cursor::step(cursor, bytes, vertices) else {
         return cursor;
     };
     let before = cursor.tail;
@@ -55,7 +55,7 @@ pub fn load_graph(bytes: &[u8], work: &mut [u32], z: Size, at: usize)
     let vertices = z.vertices;
     let edges = z.edges;
     work[0] = 0;
-    let mut cursor = Cursor::first(at);
+    let mut cursor = cursor::first(at);
     let mut j: u32 = 0;
     while j < edges {
         cursor = load_edge(bytes, work, z, cursor, j);

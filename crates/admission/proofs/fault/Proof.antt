@@ -1,8 +1,8 @@
 -- `fault` meets its contract: the plan, then the rows. Assumes nothing.
 use mathlib.Core.Path.{sym, ap, _∙_}
-use Rattle.graph.specs.Steps.{planRefusal}
-use Rattle.graph.proofs.Reading.{check-header, check-rest}
-use Rattle.graph.proofs.Filling.{checked-sizes}
+use Rattle.cursor.specs.Steps.{planRefusal}
+use Rattle.cursor.proofs.Reading.{check-header, check-rest}
+use Rattle.cursor.proofs.Stored.{checked-sizes}
 use Rattle.admission.proofs.Verdicts.{plan-refused}
 use borrow.Author.Needs.{needs}
 use Rattle.admission.proofs.fault.Statement.{statement}

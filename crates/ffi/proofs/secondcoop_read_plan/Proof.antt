@@ -8,7 +8,7 @@ use Rattle.ffi.proofs.secondcoop_read_plan.Tie as tie
 use Rattle.ffi.proofs.secondcoop_read_plan.Reads as reads
 use Rattle.ffi.proofs.secondcoop_read_plan.Lts as lts
 use Rattle.ffi.proofs.of_plan.Reads as of-plan-reads
-use Rattle.graph.proofs.read.read.Reads as read-reads
+use Rattle.graph_reader.proofs.read.Reads as read-reads
 
 -- src/lib.rt:89:24
 read-requires : tie.Need-read-requires

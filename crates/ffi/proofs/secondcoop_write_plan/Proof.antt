@@ -8,7 +8,7 @@ use Rattle.ffi.proofs.secondcoop_write_plan.Tie as tie
 use Rattle.ffi.proofs.secondcoop_write_plan.Reads as reads
 use Rattle.ffi.proofs.secondcoop_write_plan.Lts as lts
 use Rattle.ffi.proofs.of_count.Reads as of-count-reads
-use Rattle.graph.proofs.write.write.Reads as write-reads
+use Rattle.graph_writer.proofs.write.Reads as write-reads
 
 -- src/lib.rt:122:25
 write-requires : tie.Need-write-requires

@@ -9,7 +9,7 @@ use Rattle.workspace.proofs.loader.load_edge.Statement.{statement}
 use Rattle.workspace.proofs.loader.load_edge.Tie as tie
 use Rattle.workspace.proofs.loader.load_edge.Reads as reads
 use Rattle.workspace.proofs.loader.load_edge.Lts as lts
-use Rattle.graph.proofs.Cursor.step.Reads as step-reads
+use Rattle.cursor.proofs.step.Reads as step-reads
 use Rattle.workspace.proofs.loader.fill_first.Reads as fill-first-reads
 
 -- src/loader.rt:36:38

@@ -10,7 +10,7 @@ use Rattle.workspace.proofs.loader.load_graph.Statement.{statement}
 use Rattle.workspace.proofs.loader.load_graph.Tie as tie
 use Rattle.workspace.proofs.loader.load_graph.Reads as reads
 use Rattle.workspace.proofs.loader.load_graph.Lts as lts
-use Rattle.graph.proofs.Cursor.first.Reads as first-reads
+use Rattle.cursor.proofs.first.Reads as first-reads
 use Rattle.workspace.proofs.loader.fill_first.Reads as fill-first-reads
 use Rattle.workspace.proofs.loader.load_edge.Reads as load-edge-reads
 

@@ -1,0 +1,27 @@
+-- `edge_fault` meets its contract. Assumes nothing.
+use mathlib.Core.Path.{sym, ap}
+use Rattle.cursor.specs.Steps.{edgeRefusal}
+use borrow.Author.Needs.{needs}
+use Rattle.cursor.proofs.check.edge_fault.Statement.{statement}
+use Rattle.cursor.proofs.check.edge_fault.Tie as tie
+use Rattle.cursor.proofs.check.edge_fault.Reads as reads
+use Rattle.cursor.proofs.check.edge_fault.Lts as lts
+
+-- src/check.rt:43:33
+enum-told : tie.Need-enum-told
+enum-told c = search needs
+
+-- src/check.rt:44:25
+enum-known-read : tie.Need-enum-known-read
+enum-known-read c = search needs
+
+-- src/check.rt:39:1
+returns : tie.Need-returns
+returns c = search needs
+
+-- src/check.rt:39:1
+returns-2 : tie.Need-returns-2
+returns-2 c = sym (ap edgeRefusal (c .before .read .given .1))
+
+pub edge-fault-spec : {M : Type 1} → statement M
+edge-fault-spec = tie.close (tie.spec enum-told enum-known-read returns returns-2)

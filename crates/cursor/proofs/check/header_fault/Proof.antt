@@ -1,0 +1,27 @@
+-- `header_fault` meets its contract. Assumes nothing.
+use mathlib.Core.Path.{sym, ap}
+use Rattle.cursor.specs.Steps.{headerRefusal}
+use borrow.Author.Needs.{needs}
+use Rattle.cursor.proofs.check.header_fault.Statement.{statement}
+use Rattle.cursor.proofs.check.header_fault.Tie as tie
+use Rattle.cursor.proofs.check.header_fault.Reads as reads
+use Rattle.cursor.proofs.check.header_fault.Lts as lts
+
+-- src/check.rt:18:32
+enum-told : tie.Need-enum-told
+enum-told c = search needs
+
+-- src/check.rt:19:20
+enum-known-taken : tie.Need-enum-known-taken
+enum-known-taken c = search needs
+
+-- src/check.rt:14:1
+returns : tie.Need-returns
+returns c = search needs
+
+-- src/check.rt:14:1
+returns-2 : tie.Need-returns-2
+returns-2 c = sym (ap headerRefusal (c .before .taken .given .1))
+
+pub header-fault-spec : {M : Type 1} → statement M
+header-fault-spec = tie.close (tie.spec enum-told enum-known-taken returns returns-2)

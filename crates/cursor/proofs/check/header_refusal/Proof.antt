@@ -1,0 +1,27 @@
+-- `header_refusal` meets its contract. Assumes nothing.
+use mathlib.Core.Path.{sym, ap}
+use Rattle.cursor.specs.Steps.{planRefusal}
+use borrow.Author.Needs.{needs}
+use Rattle.cursor.proofs.check.header_refusal.Statement.{statement}
+use Rattle.cursor.proofs.check.header_refusal.Tie as tie
+use Rattle.cursor.proofs.check.header_refusal.Reads as reads
+use Rattle.cursor.proofs.check.header_refusal.Lts as lts
+
+-- src/check.rt:75:36
+enum-told : tie.Need-enum-told
+enum-told c = search needs
+
+-- src/check.rt:76:29
+enum-known-read : tie.Need-enum-known-read
+enum-known-read c = search needs
+
+-- src/check.rt:71:1
+returns : tie.Need-returns
+returns c = search needs
+
+-- src/check.rt:71:1
+returns-2 : tie.Need-returns-2
+returns-2 c = sym (ap planRefusal (c .before .read .given .1))
+
+pub header-refusal-spec : {M : Type 1} → statement M
+header-refusal-spec = tie.close (tie.spec enum-told enum-known-read returns returns-2)
