@@ -5,9 +5,9 @@ use native.Mathlib.Omega.{arith}
 use borrow.Author.Needs.{needs}
 use Rattle.search.specs.Job.{house}
 use Rattle.search.specs.Call.{inForce}
-use Rattle.admission.proofs.InForce.{Fit, fit-first, fit-next, row-long, row-odd, row-unfit, row-fit}
-use Rattle.admission.proofs.schedule.schedule_fails.Statement.{statement}
-use Rattle.admission.proofs.schedule.schedule_fails.Tie as tie
+use Rattle.schedule.proofs.InForce.{Fit, fit-first, fit-next, row-long, row-odd, row-unfit, row-fit}
+use Rattle.schedule.proofs.schedule_fails.Statement.{statement}
+use Rattle.schedule.proofs.schedule_fails.Tie as tie
 
 abbrev Inv-loop : tie.InvT-loop
 Inv-loop schedule numbers i₀ i = Fit (inForce house schedule) i

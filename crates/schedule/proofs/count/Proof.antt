@@ -1,7 +1,7 @@
 -- `count` meets its contract. Assumes nothing.
-use Rattle.admission.proofs.InForce.{count-house, count-given}
-use Rattle.admission.proofs.schedule.count.Statement.{statement}
-use Rattle.admission.proofs.schedule.count.Tie as tie
+use Rattle.schedule.proofs.InForce.{count-house, count-given}
+use Rattle.schedule.proofs.count.Statement.{statement}
+use Rattle.schedule.proofs.count.Tie as tie
 
 returns : tie.Need-returns
 returns c = count-house _ (c .if1 .taken)

@@ -1,9 +1,9 @@
 -- `factors` meets its contract: both are numbers of the schedule in force. Assumes nothing.
 use native.Mathlib.Omega.{arith}
-use Rattle.admission.proofs.InForce.{pairs-within, pairs-at}
+use Rattle.schedule.proofs.InForce.{pairs-within, pairs-at}
 use borrow.Author.Needs.{needs}
-use Rattle.admission.proofs.schedule.factors.Statement.{statement}
-use Rattle.admission.proofs.schedule.factors.Tie as tie
+use Rattle.schedule.proofs.factors.Statement.{statement}
+use Rattle.schedule.proofs.factors.Tie as tie
 
 mul-i : tie.Need-mul-i
 mul-i c = search needs

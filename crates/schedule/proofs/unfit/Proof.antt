@@ -1,8 +1,8 @@
 -- `unfit` meets its contract. Assumes nothing.
-use Rattle.admission.proofs.InForce.{unfit-low, unfit-high, unfit-last, unfit-next}
+use Rattle.schedule.proofs.InForce.{unfit-low, unfit-high, unfit-last, unfit-next}
 use borrow.Author.Needs.{needs}
-use Rattle.admission.proofs.schedule.unfit.Statement.{statement}
-use Rattle.admission.proofs.schedule.unfit.Tie as tie
+use Rattle.schedule.proofs.unfit.Statement.{statement}
+use Rattle.schedule.proofs.unfit.Tie as tie
 
 number-requires : tie.Need-number-requires
 number-requires c κs = search needs

@@ -2,10 +2,10 @@
 use Prim.Native.Nat.{ℕ, _/_}
 use mathlib.Core.Path.{sym, ap, _∙_}
 use native.Mathlib.Omega.{arith}
-use Rattle.admission.proofs.InForce.{pairs-length}
+use Rattle.schedule.proofs.InForce.{pairs-length}
 use borrow.Author.Needs.{needs}
-use Rattle.admission.proofs.schedule.rounds.Statement.{statement}
-use Rattle.admission.proofs.schedule.rounds.Tie as tie
+use Rattle.schedule.proofs.rounds.Statement.{statement}
+use Rattle.schedule.proofs.rounds.Tie as tie
 
 count-requires : tie.Need-count-requires
 count-requires c κs = search needs

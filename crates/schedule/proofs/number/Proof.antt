@@ -5,9 +5,9 @@ use mathlib.Core.List.{List}
 use lib.ListN.{getD}
 use native.Mathlib.Omega.{arith}
 use Rattle.search.specs.Job.{house}
-use Rattle.admission.proofs.InForce.{force-house, force-given, count-house, count-given}
-use Rattle.admission.proofs.schedule.number.Statement.{statement}
-use Rattle.admission.proofs.schedule.number.Tie as tie
+use Rattle.schedule.proofs.InForce.{force-house, force-given, count-house, count-given}
+use Rattle.schedule.proofs.number.Statement.{statement}
+use Rattle.schedule.proofs.number.Tie as tie
 
 mul-result : tie.Need-mul-result
 mul-result c = omega (arith, count-house (c .before .args .schedule .now) (c .if1 .taken))
