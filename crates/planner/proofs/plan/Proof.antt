@@ -8,7 +8,7 @@ use Rattle.planner.proofs.plan.Tie as tie
 use Rattle.planner.proofs.plan.Reads as reads
 use Rattle.planner.proofs.plan.Lts as lts
 use Rattle.admission.proofs.fault.Reads as fault-reads
-use Rattle.admission.proofs.schedule.rounds.Reads as rounds-reads
+use Rattle.schedule.proofs.rounds.Reads as rounds-reads
 use Rattle.planner.proofs.answers.answer.Reads as answer-reads
 use Rattle.planner.proofs.answers.refused.Reads as refused-reads
 

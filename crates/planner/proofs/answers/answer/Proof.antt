@@ -7,9 +7,9 @@ use Rattle.planner.proofs.answers.answer.Tie as tie
 use Rattle.planner.proofs.answers.answer.Reads as reads
 use Rattle.planner.proofs.answers.answer.Lts as lts
 use Rattle.graph.proofs.check.header.Reads as header-reads
-use Rattle.planner.proofs.begin.begin.Reads as begin-reads
-use Rattle.planner.proofs.finish.finish.Reads as finish-reads
-use Rattle.planner.proofs.turns.run.Reads as run-reads
+use Rattle.stages.proofs.begin.begin.Reads as begin-reads
+use Rattle.stages.proofs.finish.finish.Reads as finish-reads
+use Rattle.stages.proofs.turns.run.Reads as run-reads
 
 -- src/answers.rt:40:36
 header-requires : tie.Need-header-requires
