@@ -35,7 +35,7 @@ begin-requires c κs = beginning _ _ _ _ _ _ _ _ _ _ _ _ (sym (c .before .before
 run-requires : tie.Need-run-requires
 run-requires c κs = running _ _ _ _ _ _ _ _ _ _ _ _ (sym (c .before .before .before .before .before .before .before .before .before .before .before .before .before .header .ensures) ∙ c .before .before .before .before .before .before .before .before .before .before .before .at .given .1) _ _ _ (c .before .before .before .before .before .before .before .begin .ensures) (c .before .before .before .before .before .before .before .before .before .before .before .before .before .before .before .before .before .before .before .before .before .pre)
 
--- src/answers.rt:45:5
+-- src/answers.rt:56:5
 finish-requires : tie.Need-finish-requires
 finish-requires c κs =
     finishing _ _ _ _ _ _ _ _ _ _ _ _ (sym (c .before .before .before .before .before .before .before .before .before .before .before .before .before .before .before .before .before .before .before .before .before .header .ensures) ∙ c .before .before .before .before .before .before .before .before .before .before .before .before .before .before .before .before .before .before .before .at .given .1) _ _ _ (c .before .before .before .before .before .before .before .before .before .before .before .before .before .before .before .begin .ensures) _ _ _ _ _

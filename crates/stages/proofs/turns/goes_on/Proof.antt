@@ -10,27 +10,27 @@ use Rattle.stages.proofs.turns.goes_on.Tie as tie
 use Rattle.stages.proofs.turns.goes_on.Reads as reads
 use Rattle.stages.proofs.turns.goes_on.Lts as lts
 
--- src/turns.rt:51:24
+-- src/turns.rt:49:24
 enum-told : tie.Need-enum-told
 enum-told c = search needs
 
--- src/turns.rt:52:27
+-- src/turns.rt:50:27
 enum-told-2 : tie.Need-enum-told-2
 enum-told-2 c = search needs
 
--- src/turns.rt:53:28
+-- src/turns.rt:51:28
 enum-told-3 : tie.Need-enum-told-3
 enum-told-3 c = search needs
 
--- src/turns.rt:46:1
+-- src/turns.rt:44:1
 returns : tie.Need-returns
 returns c = search needs
 
--- src/turns.rt:46:1
+-- src/turns.rt:44:1
 returns-2 : tie.Need-returns-2
 returns-2 c = search needs
 
--- src/turns.rt:46:1
+-- src/turns.rt:44:1
 returns-3 : tie.Need-returns-3
 returns-3 c = sym (ap (λ (x : Step). isDue x && ltb 0 (c .before .before .args .left)) (c .enum-told3 .given .1))
 
