@@ -1,4 +1,3 @@
-pub mod InForce
 pub mod AnchorRule
 pub mod Verdicts
 pub mod Admits

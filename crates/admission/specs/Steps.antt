@@ -1,8 +1,8 @@
 -- What the private functions of admission give: for their contracts alone, nothing that a reader must believe.
-use Prim.Native.Nat.{ℕ, _+_, _-_}
-use mathlib.Core.Bool.{Bool, cond, _&&_, _||_}
+use Prim.Native.Nat.{ℕ, _+_}
+use mathlib.Core.Bool.{Bool, cond}
 use mathlib.Core.List.{List}
-use lib.ListN.{length, getD}
+use lib.ListN.{getD}
 use lib.Dec.{ltb}
 use Rattle.graph.specs.declared.Edge.{Edge}
 use Rattle.graph.specs.declared.EdgeRead.{EdgeRead}
@@ -14,16 +14,6 @@ use Rattle.admission.specs.declared.Tried.{Tried}
 use Rattle.admission.specs.declared.Tried.the-variants.{Holds, Breaks}
 use Rattle.admission.specs.declared.Verdict.{Verdict}
 use Rattle.admission.specs.declared.Verdict.the-variants.{Admitted, Refused}
-
--- ---- the schedule
-
--- a factor is outside 100 to 10,000; or it has two more numbers after it, and the second of them is above it
-unfoldable pub unfit : ℕ → ℕ → ℕ → Bool
-unfit w left next = ltb w 100 || ltb 10000 w || (ltb 2 left && ltb w next)
-
--- number i of a schedule
-unfoldable pub unfitAt : List ℕ → ℕ → Bool
-unfitAt ws i = unfit (getD ws i 0) (length ws - i) (getD ws (i + 2) 0)
 
 -- ---- the anchor rule
 

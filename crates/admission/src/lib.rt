@@ -1,11 +1,10 @@
-// Whether a planner call is admitted: its refusals, decided before anything is written, and the schedule in force.
+// Whether a planner call is admitted: its refusals, decided before anything is written.
 ghost use mathlib.Core.Path.{_≡_};
 ghost use Rattle.admission.specs.Admission.{Decided};
 ghost use Rattle.admission.specs.Steps.{planVerdict};
 
 mod consistency;
 mod rows;
-pub mod schedule;
 
 use cursor::check;
 use graph::Cursor;

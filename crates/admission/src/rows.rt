@@ -9,7 +9,6 @@ ghost use Rattle.graph.specs.Plan.{header, firstAt, edgesFrom, sizes};
 ghost use Rattle.admission.specs.Admission.{Decided};
 use crate::Verdict;
 use crate::consistency;
-use crate::schedule;
 
 // The most inadmissible heuristics.
 const MAX_GUIDES: u32 = 8;

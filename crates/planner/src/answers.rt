@@ -1,14 +1,14 @@
 // The answer to a planner call: refused, or the search begun, run and handed over.
 ghost use mathlib.Core.Path.{_≡_};
 ghost use Rattle.planner.specs.Planning.{refusalOf, Admission, Answers};
-use crate::Query;
-use crate::begin;
-use crate::finish;
-use crate::turns;
 use admission::Verdict;
 use cursor::check;
 use graph::Header;
+use rounds::Query;
 use search::Answer;
+use stages::begin;
+use stages::finish;
+use stages::turns;
 use workspace::Size;
 
 // The answer to a call that is refused; number 0 stands for none.

@@ -7,9 +7,9 @@ use Rattle.planner.proofs.answers.answer.Tie as tie
 use Rattle.planner.proofs.answers.answer.Reads as reads
 use Rattle.planner.proofs.answers.answer.Lts as lts
 use Rattle.cursor.proofs.check.header.Reads as header-reads
-use Rattle.planner.proofs.begin.begin.Reads as begin-reads
-use Rattle.planner.proofs.finish.finish.Reads as finish-reads
-use Rattle.planner.proofs.turns.run.Reads as run-reads
+use Rattle.stages.proofs.begin.begin.Reads as begin-reads
+use Rattle.stages.proofs.finish.finish.Reads as finish-reads
+use Rattle.stages.proofs.turns.run.Reads as run-reads
 
 -- src/answers.rt:40:36
 header-requires : tie.Need-header-requires
@@ -35,7 +35,7 @@ begin-requires c κs = beginning _ _ _ _ _ _ _ _ _ _ _ _ (sym (c .before .before
 run-requires : tie.Need-run-requires
 run-requires c κs = running _ _ _ _ _ _ _ _ _ _ _ _ (sym (c .before .before .before .before .before .before .before .before .before .before .before .before .before .header .ensures) ∙ c .before .before .before .before .before .before .before .before .before .before .before .at .given .1) _ _ _ (c .before .before .before .before .before .before .before .begin .ensures) (c .before .before .before .before .before .before .before .before .before .before .before .before .before .before .before .before .before .before .before .before .before .pre)
 
--- src/answers.rt:45:5
+-- src/answers.rt:56:5
 finish-requires : tie.Need-finish-requires
 finish-requires c κs =
     finishing _ _ _ _ _ _ _ _ _ _ _ _ (sym (c .before .before .before .before .before .before .before .before .before .before .before .before .before .before .before .before .before .before .before .before .before .header .ensures) ∙ c .before .before .before .before .before .before .before .before .before .before .before .before .before .before .before .before .before .before .before .at .given .1) _ _ _ (c .before .before .before .before .before .before .before .before .before .before .before .before .before .before .before .begin .ensures) _ _ _ _ _

@@ -1,0 +1,274 @@
+-- `settle` meets its contract, by the rounds left, which fall with each call. Assumes nothing.
+use native.Mathlib.Omega.{arith}
+use mathlib.Core.Path.{sym, _∙_}
+use borrow.Author.Needs.{needs}
+use Rattle.rounds.proofs.Settling.{stuck-not, due-not, round-in, step-asks, round-over, settling-on, settles-none, settles-stop, settles-on}
+use Prim.Native.Nat.{ℕ, _<_}
+use borrow.Fn.Kinds.{In}
+use borrow.Fn.PlainCycle.{Measures, is, falls, and}
+use Rattle.rounds.proofs.settle.Reads as settle
+use Rattle.rounds.proofs.settle.Kinds as settle-kinds
+use Rattle.rounds.proofs.+settle.Lts-settle as settle-lts
+use Rattle.schedule.proofs.factors.Reads as factors-reads
+use Rattle.expansion.proofs.turns.step.Reads as step-reads
+use Rattle.rounds.proofs.end_round.Reads as end-round-reads
+use Rattle.rounds.proofs.+settle.{statement}
+use Rattle.rounds.proofs.+settle.Tie.{close}
+
+abbrev μ-settle : Measures 4 settle-kinds.ps ℕ
+μ-settle κs a = a .0
+
+abbrev settle-at : ℕ → In 4 settle-kinds.ps
+settle-at t = and 4 settle-kinds.ps (is 4 settle-kinds.ps μ-settle t) settle.Pre
+
+abbrev settle-below : ℕ → In 4 settle-kinds.ps
+settle-below t = and 4 settle-kinds.ps (falls 4 settle-kinds.ps _<_ μ-settle t) settle.Pre
+
+-- src/lib.rt:66:9
+settle-returns : (t : ℕ) → settle-lts.Need-returns (
+  factors-reads.Asked,
+  factors-reads.Learnt,
+  step-reads.Asked,
+  step-reads.Learnt,
+  end-round-reads.Asked,
+  end-round-reads.Learnt,
+  settle-below t,
+  settle.Post,
+) (settle-at t) settle.Post
+settle-returns t c = settles-none _ _ _ _ _ _ _ _ (c .if1 .taken)
+
+-- src/lib.rt:71:9
+settle-factors-requires : (t : ℕ) → settle-lts.Need-factors-requires (
+  factors-reads.Asked,
+  factors-reads.Learnt,
+  step-reads.Asked,
+  step-reads.Learnt,
+  end-round-reads.Asked,
+  end-round-reads.Learnt,
+  settle-below t,
+  settle.Post,
+) (settle-at t) settle.Post
+settle-factors-requires t c κs = round-in _ _ _ _ _ _ _ _ (c .before .before .before .before .before .pre .1) (c .if1 .left)
+
+-- src/lib.rt:72:9
+settle-step-requires : (t : ℕ) → settle-lts.Need-step-requires (
+  factors-reads.Asked,
+  factors-reads.Learnt,
+  step-reads.Asked,
+  step-reads.Learnt,
+  end-round-reads.Asked,
+  end-round-reads.Learnt,
+  settle-below t,
+  settle.Post,
+) (settle-at t) settle.Post
+settle-step-requires t c κs = step-asks _ _ _ _ _ _ _ _ (c .before .before .before .before .before .before .before .pre .1) (c .before .before .if1 .left) _ (c .before .factors .ensures)
+
+-- src/lib.rt:74:24
+settle-enum-told : (t : ℕ) → settle-lts.Need-enum-told (
+  factors-reads.Asked,
+  factors-reads.Learnt,
+  step-reads.Asked,
+  step-reads.Learnt,
+  end-round-reads.Asked,
+  end-round-reads.Learnt,
+  settle-below t,
+  settle.Post,
+) (settle-at t) settle.Post
+settle-enum-told t c = search needs
+
+-- src/lib.rt:76:35
+settle-enum-told-2 : (t : ℕ) → settle-lts.Need-enum-told-2 (
+  factors-reads.Asked,
+  factors-reads.Learnt,
+  step-reads.Asked,
+  step-reads.Learnt,
+  end-round-reads.Asked,
+  end-round-reads.Learnt,
+  settle-below t,
+  settle.Post,
+) (settle-at t) settle.Post
+settle-enum-told-2 t c = search needs
+
+-- src/lib.rt:76:17
+settle-end-round-requires : (t : ℕ) → settle-lts.Need-end-round-requires (
+  factors-reads.Asked,
+  factors-reads.Learnt,
+  step-reads.Asked,
+  step-reads.Learnt,
+  end-round-reads.Asked,
+  end-round-reads.Learnt,
+  settle-below t,
+  settle.Post,
+) (settle-at t) settle.Post
+settle-end-round-requires t c κs =
+    round-over _ _ _ _ _ _ _ _ (c .before .before .before .before .before .before .before .before .before .before .before .before .pre .1) (c .before .before .before .before .before .before .before .if1 .left) _ _ (c .before .before .before .before .before .before .factors .ensures) (c .before .before .before .before .step .ensures .0) (c .before .before .enum-told2 .given .1)
+
+-- src/lib.rt:77:20
+settle-sub-settle : (t : ℕ) → settle-lts.Need-sub-settle (
+  factors-reads.Asked,
+  factors-reads.Learnt,
+  step-reads.Asked,
+  step-reads.Learnt,
+  end-round-reads.Asked,
+  end-round-reads.Learnt,
+  settle-below t,
+  settle.Post,
+) (settle-at t) settle.Post
+settle-sub-settle t c = omega (arith, c .before .before .before .before .before .before .before .before .before .before .before .before .if1)
+
+-- src/lib.rt:77:13
+settle-settle-requires : (t : ℕ) → settle-lts.Need-settle-requires (
+  factors-reads.Asked,
+  factors-reads.Learnt,
+  step-reads.Asked,
+  step-reads.Learnt,
+  end-round-reads.Asked,
+  end-round-reads.Learnt,
+  settle-below t,
+  settle.Post,
+) (settle-at t) settle.Post
+settle-settle-requires t c κs = (
+  omega (arith, c .before .before .before .before .before .before .before .before .before .before .before .before .before .before .if1, c .before .before .before .before .before .before .before .before .before .before .before .before .before .before .before .before .before .before .before .pre .0),
+  settling-on _ _ _ _ _ _ _ _ (c .before .before .before .before .before .before .before .before .before .before .before .before .before .before .before .before .before .before .before .pre .1) (c .before .before .before .before .before .before .before .before .before .before .before .before .before .before .if1 .left) _ _ (c .before .before .before .before .before .before .before .before .before .before .before .before .before .factors .ensures) (c .before .before .before .before .before .before .before .before .before .before .before .step .ensures .0) (c .before .before .before .before .before .before .before .before .before .enum-told2 .given .1) _ _ _
+      (c .before .before .before .before .before .before .end-round .ensures),
+)
+
+-- src/lib.rt:79:28
+settle-enum-told-3 : (t : ℕ) → settle-lts.Need-enum-told-3 (
+  factors-reads.Asked,
+  factors-reads.Learnt,
+  step-reads.Asked,
+  step-reads.Learnt,
+  end-round-reads.Asked,
+  end-round-reads.Learnt,
+  settle-below t,
+  settle.Post,
+) (settle-at t) settle.Post
+settle-enum-told-3 t c = search needs
+
+-- src/lib.rt:52:1
+settle-same-length : (t : ℕ) → settle-lts.Need-same-length (
+  factors-reads.Asked,
+  factors-reads.Learnt,
+  step-reads.Asked,
+  step-reads.Learnt,
+  end-round-reads.Asked,
+  end-round-reads.Learnt,
+  settle-below t,
+  settle.Post,
+) (settle-at t) settle.Post
+settle-same-length t c = search needs
+
+-- src/lib.rt:52:1
+settle-returns-2 : (t : ℕ) → settle-lts.Need-returns-2 (
+  factors-reads.Asked,
+  factors-reads.Learnt,
+  step-reads.Asked,
+  step-reads.Learnt,
+  end-round-reads.Asked,
+  end-round-reads.Learnt,
+  settle-below t,
+  settle.Post,
+) (settle-at t) settle.Post
+settle-returns-2 t c =
+    let e = c .before .before .step .ensures in
+    settles-stop _ _ _ _ _ _ _ _ (c .before .before .before .before .before .if1 .left) _ _ (c .before .before .before .before .factors .ensures) (e .0) (e .1) (λ f. stuck-not (sym (c .enum-told .given .1) ∙ f))
+
+-- src/lib.rt:52:1
+settle-same-length-2 : (t : ℕ) → settle-lts.Need-same-length-2 (
+  factors-reads.Asked,
+  factors-reads.Learnt,
+  step-reads.Asked,
+  step-reads.Learnt,
+  end-round-reads.Asked,
+  end-round-reads.Learnt,
+  settle-below t,
+  settle.Post,
+) (settle-at t) settle.Post
+settle-same-length-2 t c = search needs
+
+-- src/lib.rt:52:1
+settle-same-length-3 : (t : ℕ) → settle-lts.Need-same-length-3 (
+  factors-reads.Asked,
+  factors-reads.Learnt,
+  step-reads.Asked,
+  step-reads.Learnt,
+  end-round-reads.Asked,
+  end-round-reads.Learnt,
+  settle-below t,
+  settle.Post,
+) (settle-at t) settle.Post
+settle-same-length-3 t c = search needs
+
+-- src/lib.rt:52:1
+settle-returns-3 : (t : ℕ) → settle-lts.Need-returns-3 (
+  factors-reads.Asked,
+  factors-reads.Learnt,
+  step-reads.Asked,
+  step-reads.Learnt,
+  end-round-reads.Asked,
+  end-round-reads.Learnt,
+  settle-below t,
+  settle.Post,
+) (settle-at t) settle.Post
+settle-returns-3 t c =
+    settles-on _ _ _ _ _ _ _ _ (c .before .before .before .before .before .before .before .before .before .before .before .before .before .before .before .before .before .before .before .if1 .left) _ _ (c .before .before .before .before .before .before .before .before .before .before .before .before .before .before .before .before .before .before .factors .ensures) (c .before .before .before .before .before .before .before .before .before .before .before .before .before .before .before .before .step .ensures .0) _ _ _ _ _ _ (c .before .before .before .before .before .before .before .before .before .before .before .before .before .before .enum-told2 .given .1)
+    (c .before .before .before .before .before .before .before .before .before .before .before .end-round .ensures) (c .before .before .before .before .settle .ensures)
+
+-- src/lib.rt:52:1
+settle-same-length-4 : (t : ℕ) → settle-lts.Need-same-length-4 (
+  factors-reads.Asked,
+  factors-reads.Learnt,
+  step-reads.Asked,
+  step-reads.Learnt,
+  end-round-reads.Asked,
+  end-round-reads.Learnt,
+  settle-below t,
+  settle.Post,
+) (settle-at t) settle.Post
+settle-same-length-4 t c = search needs
+
+-- src/lib.rt:52:1
+settle-returns-4 : (t : ℕ) → settle-lts.Need-returns-4 (
+  factors-reads.Asked,
+  factors-reads.Learnt,
+  step-reads.Asked,
+  step-reads.Learnt,
+  end-round-reads.Asked,
+  end-round-reads.Learnt,
+  settle-below t,
+  settle.Post,
+) (settle-at t) settle.Post
+settle-returns-4 t c =
+    let e = c .before .before .step .ensures in
+    settles-stop _ _ _ _ _ _ _ _ (c .before .before .before .before .before .if1 .left) _ _ (c .before .before .before .before .factors .ensures) (e .0) (e .1) (λ f. due-not (sym (c .enum-told3 .given .1) ∙ f))
+
+pub +settle-spec : {M : Type 1} → statement M
++settle-spec = close μ-settle λ t. settle-lts.spec (
+  factors-reads.Asked,
+  factors-reads.Learnt,
+  step-reads.Asked,
+  step-reads.Learnt,
+  end-round-reads.Asked,
+  end-round-reads.Learnt,
+  settle-below t,
+  settle.Post,
+)
+    (settle-at t)
+    settle.Post
+    (settle-returns t)
+    (settle-factors-requires t)
+    (settle-step-requires t)
+    (settle-enum-told t)
+    (settle-enum-told-2 t)
+    (settle-end-round-requires t)
+    (settle-sub-settle t)
+    (settle-settle-requires t)
+    (settle-enum-told-3 t)
+    (settle-same-length t)
+    (settle-returns-2 t)
+    (settle-same-length-2 t)
+    (settle-same-length-3 t)
+    (settle-returns-3 t)
+    (settle-same-length-4 t)
+    (settle-returns-4 t)

@@ -1,0 +1,4 @@
+pub mod Jobs
+pub mod Asked
+pub mod Ending
+pub mod Settling

@@ -1,0 +1,60 @@
+-- `begin` meets its contract: the loaded graph, the first vertices, and step 1. Assumes nothing.
+use borrow.Author.Needs.{needs}
+use Rattle.stages.proofs.Beginning.{load-asks, first-asks, settle-asks, begins-there}
+use Rattle.stages.proofs.begin.begin.Statement.{statement}
+use Rattle.stages.proofs.begin.begin.Tie as tie
+use Rattle.stages.proofs.begin.begin.Reads as reads
+use Rattle.stages.proofs.begin.begin.Lts as lts
+use Rattle.rounds.proofs.settle.Reads as settle-reads
+use Rattle.progress.proofs.at_first.Reads as at-first-reads
+use Rattle.workspace.proofs.loader.load_graph.Reads as load-graph-reads
+use Rattle.workspace.proofs.rounds.at_first.Reads as rounds-at-first-reads
+
+-- src/begin.rt:23:5
+load-graph-requires : tie.Need-load-graph-requires
+load-graph-requires c κs = load-asks _ _ _ _ _ _ _ _ _ (c .before .before .before .before .before .before .pre .called)
+
+-- src/begin.rt:24:5
+at-first-requires : tie.Need-at-first-requires
+at-first-requires c κs =
+    let h = c .before .before .before .before .before .before .before .before .before .before .pre in first-asks _ _ _ _ _ _ _ _ _ (h .called) _ (c .before .before .before .load-graph .ensures)
+
+-- src/begin.rt:25:9
+at-first-requires-2 : tie.Need-at-first-requires-2
+at-first-requires-2 c κs = search needs
+
+-- src/begin.rt:26:5
+settle-requires : tie.Need-settle-requires
+settle-requires c κs =
+    let h = c .before .before .before .before .before .before .before .before .before .before .before .before .before .before .before .before .pre in
+    settle-asks _ _ _ _ _ _ _ _ _ (h .called) _ (c .before .before .before .before .before .before .before .before .before .load-graph .ensures) _ _ (c .before .before .before .before .before .at-first .ensures) (c .before .before .at-first2 .ensures)
+
+-- src/begin.rt:10:1
+same-length : tie.Need-same-length
+same-length c = search needs
+
+-- src/begin.rt:10:1
+same-length-2 : tie.Need-same-length-2
+same-length-2 c = search needs
+
+-- src/begin.rt:10:1
+returns : tie.Need-returns
+returns c =
+    record {
+      begins =
+          λ d h.
+          begins-there d _ _ _ _ _ _ _ _ h _ (c .before .before .before .before .before .before .before .before .before .before .before .before .before .before .load-graph .ensures) _ _ (c .before .before .before .before .before .before .before .before .before .before .at-first .ensures) (c .before .before .before .before .before .before .before .at-first2 .ensures)
+          _ _ _ (c .before .before .before .before .settle .ensures);
+    }
+
+pub begin-spec : {M : Type 1} → statement M
+begin-spec =
+    tie.close
+    (tie.spec
+    load-graph-requires
+    at-first-requires
+    at-first-requires-2
+    settle-requires
+    same-length
+    same-length-2
+    returns)

@@ -1,0 +1,4 @@
+pub mod Reached
+pub mod Going
+pub mod Begun
+pub mod Finished
