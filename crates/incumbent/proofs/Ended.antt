@@ -22,21 +22,9 @@ use Rattle.search.proofs.Tools.{same-cases}
 use Rattle.search.proofs.Words.{route-length}
 use Rattle.workspace.specs.declared.Size.{Size}
 use Rattle.workspace.specs.Layout.{verticesOf, graphOf}
-use Rattle.incumbent.specs.declared.Traced.{Traced}
-use Rattle.incumbent.specs.Kept.{tracedIn, tracedCost, keptCost, keptRoute}
-use Rattle.incumbent.specs.Steps.{measured}
+use Rattle.tracing.specs.Trace.{tracedIn, tracedCost}
+use Rattle.incumbent.specs.Kept.{keptCost, keptRoute}
 use Rattle.incumbent.proofs.Laid.{tracedIn-most}
-
--- ---- the figures of the traced route
-
-module _ (z : Size) (w : List ℕ) (start goal : ℕ) (t : Traced) (e : t ≡ measured (graphOf z w) (tracedIn z w start goal)) where
-  pub figures-length : t .length ≡ length (tracedIn z w start goal)
-  unfolding measured
-  figures-length = ap (λ (x : Traced). x .length) e
-
-  pub figures-cost : tracedCost z w start goal ≡ t .cost
-  unfolding measured tracedCost
-  figures-cost = sym (ap (λ (x : Traced). x .cost) e)
 
 -- ---- whether it becomes the incumbent
 

@@ -4,13 +4,13 @@ use native.Mathlib.Omega.{arith}
 use Rattle.graph.specs.declared.Edge.{Edge}
 use Rattle.search.specs.declared.RouteCost.the-variants.{Cost}
 use Rattle.workspace.specs.Layout.{edgeAt}
-use Rattle.incumbent.specs.Steps.{orElse}
-use Rattle.incumbent.proofs.Found.{alone-yes, alone-no, none-most, cost-most}
+use Rattle.tracing.specs.Steps.{orElse}
+use Rattle.tracing.proofs.Found.{alone-yes, alone-no, none-most, cost-most}
 use borrow.Author.Needs.{needs}
-use Rattle.incumbent.proofs.edges.look.Statement.{statement}
-use Rattle.incumbent.proofs.edges.look.Tie as tie
-use Rattle.incumbent.proofs.edges.look.Reads as reads
-use Rattle.incumbent.proofs.edges.look.Lts as lts
+use Rattle.tracing.proofs.edges.look.Statement.{statement}
+use Rattle.tracing.proofs.edges.look.Tie as tie
+use Rattle.tracing.proofs.edges.look.Reads as reads
+use Rattle.tracing.proofs.edges.look.Lts as lts
 use Rattle.workspace.proofs.layout.edge.Reads as edge-reads
 
 enum-told : tie.Need-enum-told

@@ -16,7 +16,7 @@ use Rattle.search.specs.Walk.{edgeCost}
 use Rattle.search.proofs.Tools.{same-cases}
 use Rattle.workspace.specs.declared.Size.{Size}
 use Rattle.workspace.specs.Layout.{firstOf, edgeAt, edgesRun, edgesAt, edgesUnder, graphOf}
-use Rattle.incumbent.specs.Steps.{orElse, AtMost}
+use Rattle.tracing.specs.Steps.{orElse, AtMost}
 
 -- ---- the first cost that is found
 

@@ -1,4 +1,4 @@
--- Laws of the trace of predecessors: one vertex further back, and its number of vertices and its cost at each vertex.
+-- Laws of the trace of predecessors: one vertex further back, and its number of vertices and its cost at each vertex, and at the end.
 -- Assumes nothing.
 use mathlib.Core.Path.{_≡_, refl, sym, ap, _∙_}
 use mathlib.Core.Logic.{_≢_}
@@ -21,10 +21,10 @@ use Rattle.search.specs.Rounds.{trace}
 use Rattle.search.proofs.Tools.{same-cases}
 use Rattle.workspace.specs.declared.Size.{Size}
 use Rattle.workspace.specs.Layout.{verticesOf, graphOf}
-use Rattle.incumbent.specs.declared.Traced.{Traced}
-use Rattle.incumbent.specs.Kept.{tracedIn}
-use Rattle.incumbent.specs.Steps.{measured, plus, extended, Payable, maxWord, AtMost}
-use Rattle.incumbent.proofs.Found.{cost-most}
+use Rattle.tracing.specs.declared.Traced.{Traced}
+use Rattle.tracing.specs.Trace.{tracedIn, tracedCost, measured}
+use Rattle.tracing.specs.Steps.{plus, extended, Payable, maxWord, AtMost}
+use Rattle.tracing.proofs.Found.{cost-most}
 
 -- no vertex has no predecessor
 pub pred-past : (st : List Vertex) (x : ℕ) → length st ≤ x → at st x .pred ≡ noPred
@@ -177,3 +177,14 @@ module _ (z : Size) (w : List ℕ) (start goal : ℕ) where
     tracing-full h =
         let s : k .left ≡ 1 = omega (arith, counted, k .room, k .more) in
         traced-so (sym (trace-last (verticesOf z w) start (t .first) (k .rest)) ∙ rw s at (k .ahead))
+
+-- ---- the figures of the traced route
+
+module _ (z : Size) (w : List ℕ) (start goal : ℕ) (t : Traced) (e : t ≡ measured (graphOf z w) (tracedIn z w start goal)) where
+  pub figures-length : t .length ≡ length (tracedIn z w start goal)
+  unfolding measured
+  figures-length = ap (λ (x : Traced). x .length) e
+
+  pub figures-cost : tracedCost z w start goal ≡ t .cost
+  unfolding measured tracedCost
+  figures-cost = sym (ap (λ (x : Traced). x .cost) e)

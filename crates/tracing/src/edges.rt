@@ -4,7 +4,7 @@ ghost use mathlib.Core.List.{[], _∷_};
 ghost use Prim.Native.Nat.{_<_};
 ghost use Rattle.search.specs.Walk.{edgeCost};
 ghost use Rattle.workspace.specs.Layout.{Room, edgeAt, graphOf, Ready};
-ghost use Rattle.incumbent.specs.Steps.{orElse, maxWord, AtMost};
+ghost use Rattle.tracing.specs.Steps.{orElse, maxWord, AtMost};
 use search::RouteCost;
 use workspace::Size;
 use workspace::layout;

@@ -5,13 +5,13 @@ use native.Mathlib.Numerals.{add-one}
 use native.Mathlib.Omega.{arith}
 use borrow.Author.Needs.{needs}
 use Rattle.workspace.specs.Layout.{firstOf}
-use Rattle.incumbent.specs.Steps.{maxWord, AtMost}
-use Rattle.incumbent.proofs.Found.{Looking, looking-none, looking-more, looking-all, cost-outside, none-most}
-use Rattle.incumbent.proofs.edges.edge_cost.Statement.{statement}
-use Rattle.incumbent.proofs.edges.edge_cost.Tie as tie
-use Rattle.incumbent.proofs.edges.edge_cost.Reads as reads
-use Rattle.incumbent.proofs.edges.edge_cost.Lts as lts
-use Rattle.incumbent.proofs.edges.look.Reads as look-reads
+use Rattle.tracing.specs.Steps.{maxWord, AtMost}
+use Rattle.tracing.proofs.Found.{Looking, looking-none, looking-more, looking-all, cost-outside, none-most}
+use Rattle.tracing.proofs.edges.edge_cost.Statement.{statement}
+use Rattle.tracing.proofs.edges.edge_cost.Tie as tie
+use Rattle.tracing.proofs.edges.edge_cost.Reads as reads
+use Rattle.tracing.proofs.edges.edge_cost.Lts as lts
+use Rattle.tracing.proofs.edges.look.Reads as look-reads
 use Rattle.workspace.proofs.layout.first_edge.Reads as first-edge-reads
 
 abbrev Inv-loop : tie.InvT-loop

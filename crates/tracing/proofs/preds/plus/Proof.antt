@@ -1,43 +1,43 @@
 -- `plus` meets its contract. Assumes nothing.
 use native.Mathlib.Omega.{arith}
-use Rattle.incumbent.specs.Steps.{plus}
+use Rattle.tracing.specs.Steps.{plus}
 use borrow.Author.Needs.{needs}
-use Rattle.incumbent.proofs.tracing.plus.Statement.{statement}
-use Rattle.incumbent.proofs.tracing.plus.Tie as tie
-use Rattle.incumbent.proofs.tracing.plus.Reads as reads
-use Rattle.incumbent.proofs.tracing.plus.Lts as lts
+use Rattle.tracing.proofs.preds.plus.Statement.{statement}
+use Rattle.tracing.proofs.preds.plus.Tie as tie
+use Rattle.tracing.proofs.preds.plus.Reads as reads
+use Rattle.tracing.proofs.preds.plus.Lts as lts
 
--- src/tracing.rt:33:25
+-- src/preds.rt:33:25
 enum-known-edge : tie.Need-enum-known-edge
 enum-known-edge c = search needs
 
--- src/tracing.rt:34:9
+-- src/preds.rt:34:9
 enum-told : tie.Need-enum-told
 enum-told c = search needs
 
--- src/tracing.rt:34:9
+-- src/preds.rt:34:9
 returns : tie.Need-returns
 unfolding plus
 returns c = rw (c .enum-told .given .1)
 
--- src/tracing.rt:37:30
+-- src/preds.rt:37:30
 enum-told-2 : tie.Need-enum-told-2
 enum-told-2 c = search needs
 
--- src/tracing.rt:38:25
+-- src/preds.rt:38:25
 enum-known-rest : tie.Need-enum-known-rest
 enum-known-rest c = search needs
 
--- src/tracing.rt:38:47
+-- src/preds.rt:38:47
 add-t6 : tie.Need-add-t6
 add-t6 c = omega (arith, c .before .before .before .before .before .before .pre .0 .most _ (c .before .before .before .before .edge .given .1), c .before .before .before .before .before .before .pre .1 .most _ (c .before .rest .given .1))
 
--- src/tracing.rt:29:1
+-- src/preds.rt:29:1
 returns-2 : tie.Need-returns-2
 unfolding plus
 returns-2 c = rw (c .before .before .before .edge .given .1, c .enum-told2 .given .1)
 
--- src/tracing.rt:29:1
+-- src/preds.rt:29:1
 returns-3 : tie.Need-returns-3
 unfolding plus
 returns-3 c = rw (c .before .before .before .before .edge .given .1, c .before .rest .given .1)

@@ -5,23 +5,23 @@ use Rattle.search.specs.declared.Vertex.{Vertex}
 use Rattle.search.specs.Job.{noPred}
 use Rattle.workspace.specs.Layout.{verticesOf}
 use Rattle.workspace.proofs.Written.{length-verticesOf}
-use Rattle.incumbent.proofs.Traces.{pred-past}
+use Rattle.tracing.proofs.Traces.{pred-past}
 use borrow.Author.Needs.{needs}
-use Rattle.incumbent.proofs.tracing.pred_of.Statement.{statement}
-use Rattle.incumbent.proofs.tracing.pred_of.Tie as tie
-use Rattle.incumbent.proofs.tracing.pred_of.Reads as reads
-use Rattle.incumbent.proofs.tracing.pred_of.Lts as lts
+use Rattle.tracing.proofs.preds.pred_of.Statement.{statement}
+use Rattle.tracing.proofs.preds.pred_of.Tie as tie
+use Rattle.tracing.proofs.preds.pred_of.Reads as reads
+use Rattle.tracing.proofs.preds.pred_of.Lts as lts
 use Rattle.workspace.proofs.layout.load.Reads as load-reads
 
--- src/tracing.rt:22:13
+-- src/preds.rt:22:13
 load-requires : tie.Need-load-requires
 load-requires c κs = search needs
 
--- src/tracing.rt:23:9
+-- src/preds.rt:23:9
 returns : tie.Need-returns
 returns c = ap (λ (x : Vertex). x .pred) (c .load .ensures .0)
 
--- src/tracing.rt:16:1
+-- src/preds.rt:16:1
 returns-2 : tie.Need-returns-2
 unfolding noPred
 returns-2 c =
