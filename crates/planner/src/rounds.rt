@@ -10,11 +10,9 @@ ghost use Rattle.planner.specs.Carried.{RoundOver, RoundEnds, Settling, 
 use crate::Query;
 use crate::Standing;
 use admission::schedule;
-use expansion::turns;
 use search::Progress;
 use search::Step;
 use workspace::Size;
-use workspace::rounds;
 
 // A round begins after the one that is over, if there is one.
 fn reopen_next(work: &mut [u32], z: Size, over: u32, all: u32)
@@ -22,7 +20,7 @@ fn reopen_next(work: &mut [u32], z: Size, over: u32, all: u32)
     ensures { λ _. ⌜ now (work .exit) ≡ cond (ltb (suc over) all) (written z (map reopened (verticesOf z (now (work .entry)))) (now (work .entry))) (now (work .entry)) ⌝ }
 {
     if (over as u64) + 1 < all as u64 {
-        rounds::reopen(work, z);
+        opening::reopen(work, z);
     }
 }
 
@@ -57,7 +55,7 @@ pub fn settle(
         };
     }
     let f = schedule::factors(schedule, p.rounds);
-    let step = turns::step(work, anchor, z, f, q.goal);
+    let step = turn::step(work, anchor, z, f, q.goal);
     match step {
         Step::Stuck => Standing { step, progress: p },
         Step::Finished => {

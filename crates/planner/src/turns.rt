@@ -8,7 +8,6 @@ use crate::Query;
 use crate::Standing;
 use crate::rounds;
 use admission::schedule;
-use expansion::turns;
 use search::Step;
 use workspace::Size;
 
@@ -34,7 +33,7 @@ pub fn advance(
         Step::Finished => s,
         Step::Due(m, a) => {
             let f = schedule::factors(schedule, p.rounds);
-            turns::turn(work, log, guides, z, f, m, a, p.turn, p.expansions);
+            turn::turn(work, log, guides, z, f, m, a, p.turn, p.expansions);
             let next = progress::after_turn(q.guides, p);
             let left = q.rounds - next.rounds;
             rounds::settle(left, work, route, anchor, schedule, z, q, next)

@@ -10,7 +10,7 @@ use Rattle.planner.proofs.rounds.settle.Reads as settle
 use Rattle.planner.proofs.rounds.settle.Kinds as settle-kinds
 use Rattle.planner.proofs.rounds.+settle.Lts-settle as settle-lts
 use Rattle.admission.proofs.schedule.factors.Reads as factors-reads
-use Rattle.expansion.proofs.turns.step.Reads as step-reads
+use Rattle.turn.proofs.step.Reads as step-reads
 use Rattle.planner.proofs.rounds.end_round.Reads as end-round-reads
 use Rattle.planner.proofs.rounds.+settle.{statement}
 use Rattle.planner.proofs.rounds.+settle.Tie.{close}

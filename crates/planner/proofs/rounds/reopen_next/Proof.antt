@@ -7,7 +7,7 @@ use Rattle.planner.proofs.rounds.reopen_next.Statement.{statement}
 use Rattle.planner.proofs.rounds.reopen_next.Tie as tie
 use Rattle.planner.proofs.rounds.reopen_next.Reads as reads
 use Rattle.planner.proofs.rounds.reopen_next.Lts as lts
-use Rattle.workspace.proofs.rounds.reopen.Reads as reopen-reads
+use Rattle.opening.proofs.reopen.Reads as reopen-reads
 
 -- src/rounds.rt:24:8
 add-if1 : tie.Need-add-if1

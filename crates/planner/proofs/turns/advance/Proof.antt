@@ -9,7 +9,7 @@ use Rattle.planner.proofs.turns.advance.Tie as tie
 use Rattle.planner.proofs.turns.advance.Reads as reads
 use Rattle.planner.proofs.turns.advance.Lts as lts
 use Rattle.admission.proofs.schedule.factors.Reads as factors-reads
-use Rattle.expansion.proofs.turns.turn.Reads as turn-reads
+use Rattle.turn.proofs.turn.Reads as turn-reads
 use Rattle.planner.proofs.rounds.settle.Reads as settle-reads
 use Rattle.progress.proofs.after_turn.Reads as after-turn-reads
 

@@ -1,12 +1,12 @@
 -- `turn` meets its contract. Assumes nothing.
 use borrow.Author.Needs.{needs}
-use Rattle.turns.proofs.turn.Statement.{statement}
-use Rattle.turns.proofs.turn.Tie as tie
-use Rattle.turns.proofs.turn.Reads as reads
-use Rattle.turns.proofs.turn.Lts as lts
+use Rattle.turn.proofs.turn.Statement.{statement}
+use Rattle.turn.proofs.turn.Tie as tie
+use Rattle.turn.proofs.turn.Reads as reads
+use Rattle.turn.proofs.turn.Lts as lts
 use Rattle.expansion.proofs.expand.Reads as expand-reads
-use Rattle.turns.proofs.choice.Reads as choice-reads
-use Rattle.turns.proofs.note.Reads as note-reads
+use Rattle.turn.proofs.choice.Reads as choice-reads
+use Rattle.turn.proofs.note.Reads as note-reads
 
 -- src/lib.rt:95:9
 choice-requires : tie.Need-choice-requires

@@ -1,12 +1,12 @@
 -- `choice` meets its contract. Assumes nothing.
-use Rattle.turns.specs.Asked.{choiceOf}
-use Rattle.turns.proofs.Keys.{choose-inside}
+use Rattle.turn.specs.Asked.{choiceOf}
+use Rattle.turn.proofs.Keys.{choose-inside}
 use borrow.Author.Needs.{needs}
-use Rattle.turns.proofs.choice.Statement.{statement}
-use Rattle.turns.proofs.choice.Tie as tie
-use Rattle.turns.proofs.choice.Reads as reads
-use Rattle.turns.proofs.choice.Lts as lts
-use Rattle.turns.proofs.candidate.Reads as candidate-reads
+use Rattle.turn.proofs.choice.Statement.{statement}
+use Rattle.turn.proofs.choice.Tie as tie
+use Rattle.turn.proofs.choice.Reads as reads
+use Rattle.turn.proofs.choice.Lts as lts
+use Rattle.turn.proofs.candidate.Reads as candidate-reads
 use Rattle.search.proofs.rules.choose.Reads as choose-reads
 
 -- src/lib.rt:62:9

@@ -24,7 +24,7 @@ use Rattle.search.specs.Bounds.{maxKey, Within, DueWithin}
 use Rattle.workspace.specs.declared.Size.{Size}
 use Rattle.workspace.specs.Layout.{verticesOf}
 use Rattle.workspace.proofs.Written.{length-verticesOf}
-use Rattle.turns.specs.Asked.{sheet}
+use Rattle.turn.specs.Asked.{sheet}
 
 -- ---- bounds
 

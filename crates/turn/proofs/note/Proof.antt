@@ -1,12 +1,12 @@
 -- `note` meets its contract. Assumes nothing.
 use mathlib.Core.Path.{sym}
 use lib.Seq.{set-out}
-use Rattle.turns.specs.Asked.{choiceWord}
+use Rattle.turn.specs.Asked.{choiceWord}
 use borrow.Author.Needs.{needs}
-use Rattle.turns.proofs.note.Statement.{statement}
-use Rattle.turns.proofs.note.Tie as tie
-use Rattle.turns.proofs.note.Reads as reads
-use Rattle.turns.proofs.note.Lts as lts
+use Rattle.turn.proofs.note.Statement.{statement}
+use Rattle.turn.proofs.note.Tie as tie
+use Rattle.turn.proofs.note.Reads as reads
+use Rattle.turn.proofs.note.Lts as lts
 
 -- src/lib.rt:75:28
 mul-log : tie.Need-mul-log

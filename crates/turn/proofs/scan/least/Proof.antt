@@ -1,13 +1,13 @@
 -- `least` meets its contract: the best of the first s vertices, and of all. Assumes nothing.
 use Prim.Native.Nat.{_-_}
 use Rattle.search.specs.Lead.{bestOf}
-use Rattle.turns.proofs.Keys.{Scanned, scanned-none, scanned-next, scanned-all}
+use Rattle.turn.proofs.Keys.{Scanned, scanned-none, scanned-next, scanned-all}
 use borrow.Author.Needs.{needs}
-use Rattle.turns.proofs.scan.least.Statement.{statement}
-use Rattle.turns.proofs.scan.least.Tie as tie
-use Rattle.turns.proofs.scan.least.Reads as reads
-use Rattle.turns.proofs.scan.least.Lts as lts
-use Rattle.turns.proofs.scan.consider.Reads as consider-reads
+use Rattle.turn.proofs.scan.least.Statement.{statement}
+use Rattle.turn.proofs.scan.least.Tie as tie
+use Rattle.turn.proofs.scan.least.Reads as reads
+use Rattle.turn.proofs.scan.least.Lts as lts
+use Rattle.turn.proofs.scan.consider.Reads as consider-reads
 use Rattle.search.proofs.rules.Lead.best.Reads as best-reads
 use Rattle.search.proofs.rules.Lead.none.Reads as none-reads
 

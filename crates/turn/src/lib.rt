@@ -8,7 +8,7 @@ ghost use Rattle.search.specs.Job.{at};
 ghost use Rattle.search.specs.Turn.{least, stepOne, candidate, expand};
 ghost use Rattle.search.specs.Bounds.{maxFactor, maxKey, Within, DueWithin};
 ghost use Rattle.workspace.specs.Layout.{Room, verticesOf, graphOf, written};
-ghost use Rattle.turns.specs.Asked.{sheet, choiceOf, choiceWord, Asked};
+ghost use Rattle.turn.specs.Asked.{sheet, choiceOf, choiceWord, Asked};
 use search::Best;
 use search::Choice;
 use search::Factors;

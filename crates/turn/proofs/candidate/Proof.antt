@@ -1,13 +1,13 @@
 -- `candidate` meets its contract. Assumes nothing.
 use mathlib.Core.Path.{sym}
-use Rattle.turns.proofs.Keys.{within-nobody, sheet-fits, candidate-none, candidate-part}
+use Rattle.turn.proofs.Keys.{within-nobody, sheet-fits, candidate-none, candidate-part}
 use native.Mathlib.Omega.{arith}
 use borrow.Author.Needs.{needs}
-use Rattle.turns.proofs.candidate.Statement.{statement}
-use Rattle.turns.proofs.candidate.Tie as tie
-use Rattle.turns.proofs.candidate.Reads as reads
-use Rattle.turns.proofs.candidate.Lts as lts
-use Rattle.turns.proofs.scan.least.Reads as least-reads
+use Rattle.turn.proofs.candidate.Statement.{statement}
+use Rattle.turn.proofs.candidate.Tie as tie
+use Rattle.turn.proofs.candidate.Reads as reads
+use Rattle.turn.proofs.candidate.Lts as lts
+use Rattle.turn.proofs.scan.least.Reads as least-reads
 
 -- src/lib.rt:38:9
 returns : tie.Need-returns

@@ -1,11 +1,11 @@
 -- `step` meets its contract. Assumes nothing.
-use Rattle.turns.proofs.Keys.{due-within}
+use Rattle.turn.proofs.Keys.{due-within}
 use borrow.Author.Needs.{needs}
-use Rattle.turns.proofs.step.Statement.{statement}
-use Rattle.turns.proofs.step.Tie as tie
-use Rattle.turns.proofs.step.Reads as reads
-use Rattle.turns.proofs.step.Lts as lts
-use Rattle.turns.proofs.scan.least.Reads as least-reads
+use Rattle.turn.proofs.step.Statement.{statement}
+use Rattle.turn.proofs.step.Tie as tie
+use Rattle.turn.proofs.step.Reads as reads
+use Rattle.turn.proofs.step.Lts as lts
+use Rattle.turn.proofs.scan.least.Reads as least-reads
 use Rattle.search.proofs.rules.step_one.Reads as step-one-reads
 use Rattle.workspace.proofs.layout.load.Reads as load-reads
 

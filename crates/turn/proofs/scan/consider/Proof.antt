@@ -1,11 +1,11 @@
 -- `consider` meets its contract. Assumes nothing.
 use mathlib.Core.Path.{sym, _∙_}
-use Rattle.turns.proofs.Keys.{offered-taken, offered-left}
+use Rattle.turn.proofs.Keys.{offered-taken, offered-left}
 use borrow.Author.Needs.{needs}
-use Rattle.turns.proofs.scan.consider.Statement.{statement}
-use Rattle.turns.proofs.scan.consider.Tie as tie
-use Rattle.turns.proofs.scan.consider.Reads as reads
-use Rattle.turns.proofs.scan.consider.Lts as lts
+use Rattle.turn.proofs.scan.consider.Statement.{statement}
+use Rattle.turn.proofs.scan.consider.Tie as tie
+use Rattle.turn.proofs.scan.consider.Reads as reads
+use Rattle.turn.proofs.scan.consider.Lts as lts
 use Rattle.search.proofs.Vertex.key.Reads as key-reads
 use Rattle.search.proofs.Vertex.offered.Reads as offered-reads
 use Rattle.search.proofs.rules.Lead.better.Reads as better-reads
