@@ -15,8 +15,8 @@ use Rattle.search.specs.Walk.{Walk, here, along}
 use Rattle.search.specs.Job.{Job, routeEnd}
 use Rattle.search.specs.Rounds.{State}
 use Rattle.search.specs.Outcome.{routeWords, routeAfter}
+use Rattle.search.proofs.Words.{route-length}
 use Rattle.incumbent.specs.Kept.{upToEnd}
-use Rattle.incumbent.proofs.Ended.{length-words}
 
 end-here : (x : ℕ) (r : List ℕ) → x ≡ routeEnd → upToEnd (x ∷ r) ≡ []
 unfolding upToEnd
@@ -92,7 +92,7 @@ ends-there (x ∷ r) k b = not-here x (r ++ replicate k routeEnd) (λ e. omega (
 route-back : (v : ℕ) (r old : List ℕ) → length r ≤ v → Below routeEnd r → upToEnd (take v (over (routeWords v r) old)) ≡ r
 unfolding over routeWords
 route-back v r old h b =
-    ap upToEnd (take-at (routeWords v r) (drop (length (routeWords v r)) old) v (length-words v r h)) ∙ ends-there r (v - length r) b
+    ap upToEnd (take-at (routeWords v r) (drop (length (routeWords v r)) old) v (route-length v r h)) ∙ ends-there r (v - length r) b
 
 -- route memory after a search holds the incumbent, a walk over edges of at most V ≤ 4,294,967,295 vertices
 pub incumbent-length :

@@ -4,10 +4,10 @@ use mathlib.Core.Path.{_≡_, refl, sym, ap, _∙_}
 use mathlib.Core.Logic.{_≢_}
 use mathlib.Core.Bool.{Bool, true, false, cond, _||_}
 use mathlib.Core.List.{List}
-use Prim.Native.Nat.{ℕ, suc, _-_, _≤_, _<_}
+use Prim.Native.Nat.{ℕ, suc, _≤_, _<_}
 use native.Mathlib.Omega.{arith}
 use lib.Dec.{eqb, ltb}
-use lib.ListN.{length, drop, replicate, length-append, length-replicate}
+use lib.ListN.{length, drop}
 use lib.Seq.{drop-at}
 use borrow.Author.Tests.{eq-eqb, ne-eqb}
 use Rattle.graph.specs.Lists.{over}
@@ -15,27 +15,16 @@ use Rattle.search.specs.declared.Progress.{Progress}
 use Rattle.search.specs.declared.RouteCost.{RouteCost}
 use Rattle.search.specs.declared.RouteCost.the-variants.{Broken, Cost}
 use Rattle.search.specs.Walk.{routeCost}
-use Rattle.search.specs.Job.{Job, routeEnd}
+use Rattle.search.specs.Job.{Job}
 use Rattle.search.specs.Rounds.{State, ended, traced, improves, costOr, endRound}
 use Rattle.search.specs.Outcome.{routeWords, routeAfter}
 use Rattle.search.proofs.Tools.{same-cases}
+use Rattle.search.proofs.Words.{route-length}
 use Rattle.workspace.specs.declared.Size.{Size}
 use Rattle.workspace.specs.Layout.{verticesOf, graphOf}
-use Rattle.incumbent.specs.declared.Traced.{Traced}
-use Rattle.incumbent.specs.Kept.{tracedIn, tracedCost, keptCost, keptRoute}
-use Rattle.incumbent.specs.Steps.{measured}
+use Rattle.tracing.specs.Trace.{tracedIn, tracedCost}
+use Rattle.incumbent.specs.Kept.{keptCost, keptRoute}
 use Rattle.incumbent.proofs.Laid.{tracedIn-most}
-
--- ---- the figures of the traced route
-
-module _ (z : Size) (w : List ℕ) (start goal : ℕ) (t : Traced) (e : t ≡ measured (graphOf z w) (tracedIn z w start goal)) where
-  pub figures-length : t .length ≡ length (tracedIn z w start goal)
-  unfolding measured
-  figures-length = ap (λ (x : Traced). x .length) e
-
-  pub figures-cost : tracedCost z w start goal ≡ t .cost
-  unfolding measured tracedCost
-  figures-cost = sym (ap (λ (x : Traced). x .cost) e)
 
 -- ---- whether it becomes the incumbent
 
@@ -71,11 +60,6 @@ over-over : (new older old : List ℕ) → length new ≡ length older → over 
 unfolding over
 over-over new older old e = rw (drop-at older (drop (length older) old) (length new) (sym e), e)
 
-pub length-words : (v : ℕ) (r : List ℕ) → length r ≤ v → length (routeWords v r) ≡ v
-unfolding routeWords
-length-words v r h =
-    length-append r (replicate (v - length r) routeEnd) ∙ omega (arith, length-replicate (v - length r) routeEnd)
-
 -- ---- the round's end, by the search's definitions
 
 module _ (job : Job) (s : State) where
@@ -97,7 +81,7 @@ module _ (job : Job) (s : State) where
         (λ e.
         rw (ne-eqb (s .progress .rounds) 0 e)
         (over-over (routeWords (job .size) (traced job s)) (routeWords (job .size) (s .incumbent)) old
-        (omega (arith, length-words (job .size) (traced job s) small, length-words (job .size) (s .incumbent) (short (omega arith))))))
+        (omega (arith, route-length (job .size) (traced job s) small, route-length (job .size) (s .incumbent) (short (omega arith))))))
 
     -- a dearer route is not the first
     not-first : improves (Cost k) (s .progress) ≡ false → eqb (s .progress .rounds) 0 ≡ false

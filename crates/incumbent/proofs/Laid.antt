@@ -15,9 +15,9 @@ use Rattle.search.specs.Outcome.{routeWords}
 use Rattle.search.proofs.Tools.{same-cases}
 use Rattle.workspace.specs.declared.Size.{Size}
 use Rattle.workspace.specs.Layout.{verticesOf}
-use Rattle.incumbent.specs.Kept.{tracedIn}
+use Rattle.tracing.specs.Trace.{tracedIn}
+use Rattle.tracing.proofs.Traces.{trace-stop, trace-go, trace-none}
 use Rattle.incumbent.specs.Steps.{backs}
-use Rattle.incumbent.proofs.Traces.{trace-stop, trace-go, trace-none}
 
 -- ---- predecessors by their number
 

@@ -1,4 +1,4 @@
--- What a finished round does to the incumbent (the kept route) and to route memory, over the words of work memory.
+-- What a finished round does to the incumbent (the kept route) and to route memory.
 use Prim.Native.Nat.{ℕ}
 use mathlib.Core.Bool.{cond}
 use mathlib.Core.List.{List, [], _∷_}
@@ -7,19 +7,8 @@ use Rattle.graph.specs.Lists.{over}
 use Rattle.search.specs.declared.Progress.{Progress}
 use Rattle.search.specs.declared.RouteCost.{RouteCost}
 use Rattle.search.specs.Job.{routeEnd}
-use Rattle.search.specs.Walk.{routeCost}
-use Rattle.search.specs.Rounds.{trace, improves, costOr}
+use Rattle.search.specs.Rounds.{improves, costOr}
 use Rattle.search.specs.Outcome.{routeWords}
-use Rattle.workspace.specs.declared.Size.{Size}
-use Rattle.workspace.specs.Layout.{verticesOf, graphOf}
-
--- predecessors traced from the goal, as work memory has them
-unfoldable pub tracedIn : Size → List ℕ → ℕ → ℕ → List ℕ
-tracedIn z w start goal = trace (verticesOf z w) start (z .vertices) goal []
-
--- broken, or their cost
-unfoldable pub tracedCost : Size → List ℕ → ℕ → ℕ → RouteCost
-tracedCost z w start goal = routeCost (graphOf z w) (tracedIn z w start goal)
 
 -- the incumbent's cost after a round whose traced route is c
 unfoldable pub keptCost : RouteCost → Progress → ℕ

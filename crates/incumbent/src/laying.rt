@@ -8,9 +8,9 @@ ghost use Rattle.graph.specs.Lists.{over};
 ghost use Rattle.search.specs.Job.{at, routeEnd};
 ghost use Rattle.search.specs.Outcome.{routeWords};
 ghost use Rattle.workspace.specs.Layout.{Room, verticesOf};
-ghost use Rattle.incumbent.specs.Kept.{tracedIn};
+ghost use Rattle.tracing.specs.Trace.{tracedIn};
 ghost use Rattle.incumbent.specs.Steps.{backs};
-use crate::tracing;
+use tracing::preds;
 use workspace::Size;
 
 // Word i of the route becomes x. The predecessor of x.
@@ -20,7 +20,7 @@ fn put(work: &[u32], route: &mut [u32], z: Size, i: u32, x: u32) -> u32
     ensures { λ r. ⌜ now (route .exit) ≡ set (now (route .entry)) i x ⌝ }
 {
     route[i as usize] = x;
-    tracing::pred_of(work, z, x)
+    preds::pred_of(work, z, x)
 }
 
 // n vertices, the last of them the goal, each the predecessor of the next, from the back.

@@ -1,9 +1,6 @@
-// What a finished round does to the incumbent (the kept route): the trace of predecessors from the goal,
-// what it costs, and route memory.
-pub mod edges;
+// What a finished round does to the incumbent (the kept route) and to route memory.
 pub mod kept;
 mod laying;
-mod tracing;
 
 ghost use mathlib.Core.Path.{_≡_};
 ghost use Prim.Native.Nat.{_<_, _≤_};
@@ -11,20 +8,15 @@ ghost use lib.ListN.{length};
 ghost use Rattle.search.specs.declared.RouteCost.the-variants.{Cost};
 ghost use Rattle.search.specs.Rounds.{improves};
 ghost use Rattle.workspace.specs.Layout.{Ready};
-ghost use Rattle.incumbent.specs.Kept.{tracedIn, tracedCost, keptCost, keptRoute};
+ghost use Rattle.tracing.specs.Trace.{tracedIn, tracedCost};
+ghost use Rattle.incumbent.specs.Kept.{keptCost, keptRoute};
 use search::Progress;
 use search::RouteCost;
+use tracing::preds;
 use workspace::Size;
 
 // In route memory: the word after the incumbent's last vertex, and those after it up to V words.
 pub const ROUTE_END: u32 = 4294967295;
-
-// Vertices that a trace has so far: the first of them, their number, and what they are over the edges.
-struct Traced {
-    first: u32,
-    length: u32,
-    cost: RouteCost,
-}
 
 // Whether a route of the cost c becomes the incumbent: none is kept yet, or it is strictly cheaper.
 fn improves(c: u64, p: Progress) -> bool
@@ -43,7 +35,7 @@ pub fn keep(work: &[u32], route: &mut [u32], z: Size, start: u32, goal: u32, p: 
     ensures { λ r. ⌜ r ≡ keptCost (tracedCost z (now (work .entry)) start goal) p ⌝ }
     ensures { λ r. ⌜ now (route .exit) ≡ keptRoute (z .vertices) (tracedCost z (now (work .entry)) start goal) (tracedIn z (now (work .entry)) start goal) p (now (route .entry)) ⌝ }
 {
-    let t = tracing::traced(work, z, start, goal);
+    let t = preds::traced(work, z, start, goal);
     let cost = t.cost;
     let RouteCost::Cost(c) = cost else {
         return p.cost;

@@ -19,7 +19,8 @@ use Rattle.workspace.specs.declared.Size.{Size}
 use Rattle.workspace.specs.Layout.{verticesOf, graphOf, written}
 use Rattle.workspace.specs.Holds.{Holds}
 use Rattle.workspace.proofs.Holding.{holds-vertices, holds-graph, holds-written}
-use Rattle.incumbent.specs.Kept.{tracedIn, tracedCost, keptCost, keptRoute}
+use Rattle.tracing.specs.Trace.{tracedIn, tracedCost}
+use Rattle.incumbent.specs.Kept.{keptCost, keptRoute}
 use Rattle.incumbent.proofs.Ended.{ends-cost, ends-route}
 use Rattle.rounds.specs.declared.Query.{Query}
 use Rattle.rounds.specs.Carried.{Asking, Carries}

@@ -7,11 +7,9 @@ ghost use lib.Dec.{ltb};
 ghost use Rattle.search.specs.Rounds.{reopened};
 ghost use Rattle.workspace.specs.Layout.{verticesOf, written, Ready};
 ghost use Rattle.rounds.specs.Carried.{RoundOver, RoundEnds, Settling, Settles};
-use expansion::turns;
 use search::Progress;
 use search::Step;
 use workspace::Size;
-use workspace::rounds;
 
 // What is asked besides the plan: the ends, the number of inadmissible heuristics (guides), and the number
 // of rounds in force.
@@ -34,7 +32,7 @@ fn reopen_next(work: &mut [u32], z: Size, over: u32, all: u32)
     ensures { λ _. ⌜ now (work .exit) ≡ cond (ltb (suc over) all) (written z (map reopened (verticesOf z (now (work .entry)))) (now (work .entry))) (now (work .entry)) ⌝ }
 {
     if (over as u64) + 1 < all as u64 {
-        rounds::reopen(work, z);
+        opening::reopen(work, z);
     }
 }
 
@@ -69,7 +67,7 @@ pub fn settle(
         };
     }
     let f = schedule::factors(schedule, p.rounds);
-    let step = turns::step(work, anchor, z, f, q.goal);
+    let step = turn::step(work, anchor, z, f, q.goal);
     match step {
         Step::Stuck => Standing { step, progress: p },
         Step::Finished => {

@@ -25,8 +25,8 @@ use Rattle.search.proofs.Runs.{stuck≢due, finished≢due, advance-due, advanc
 use Rattle.workspace.specs.declared.Size.{Size}
 use Rattle.workspace.specs.Layout.{verticesOf, graphOf, written}
 use Rattle.workspace.proofs.Holding.{holds-vertices, holds-graph, holds-ready, holds-written}
-use Rattle.expansion.specs.Asked.{sheet, choiceOf, choiceWord, Asked}
-use Rattle.expansion.proofs.Keys.{candidate-sheet}
+use Rattle.turn.specs.Asked.{sheet, choiceOf, choiceWord, Asked}
+use Rattle.turn.proofs.Keys.{candidate-sheet}
 use Rattle.rounds.specs.declared.Query.{Query}
 use Rattle.rounds.specs.declared.Standing.{Standing}
 use Rattle.rounds.specs.Carried.{Asking, Carries, Stands, Settling, Settles}

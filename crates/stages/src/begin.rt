@@ -3,7 +3,6 @@ ghost use Rattle.stages.specs.Begun.{Beginning, Begins};
 use rounds::Query;
 use rounds::Standing;
 use workspace::Size;
-use workspace::loader;
 
 // The plan's graph is loaded, whose first edge stands at an offset, the first vertices are laid, and the
 // search begins.
@@ -21,7 +20,7 @@ pub fn begin(
     ensures { λ r. ⌜ Begins z q (now (bytes .entry)) (now (anchor .entry)) (now (schedule .entry)) at (now (work .entry)) (now (route .entry)) r (now (work .exit)) (now (route .exit)) ⌝ }
 {
     loader::load_graph(bytes, work, z, at);
-    workspace::rounds::at_first(work, z, q.start);
+    opening::at_first(work, z, q.start);
     let p = progress::at_first(q.guides);
     rounds::settle(q.rounds, work, route, anchor, schedule, z, q, p)
 }

@@ -4,7 +4,6 @@ ghost use mathlib.Core.Bool.{_&&_};
 ghost use lib.Dec.{ltb};
 ghost use Rattle.stages.specs.Reached.{Advancing, Advances, Running, Runs};
 ghost use Rattle.stages.specs.Going.{isDue};
-use expansion::turns;
 use rounds::Query;
 use rounds::Standing;
 use search::Step;
@@ -32,7 +31,7 @@ pub fn advance(
         Step::Finished => s,
         Step::Due(m, a) => {
             let f = schedule::factors(schedule, p.rounds);
-            turns::turn(work, log, guides, z, f, m, a, p.turn, p.expansions);
+            turn::turn(work, log, guides, z, f, m, a, p.turn, p.expansions);
             let next = progress::after_turn(q.guides, p);
             let left = q.rounds - next.rounds;
             rounds::settle(left, work, route, anchor, schedule, z, q, next)

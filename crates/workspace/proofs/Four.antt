@@ -12,8 +12,7 @@ use Rattle.graph.specs.Lists.{over}
 use Rattle.search.specs.declared.Vertex.{Vertex}
 use Rattle.search.specs.Job.{at}
 use Rattle.search.specs.Outcome.{markWord, vertexWords}
-use Rattle.workspace.specs.Layout.{hasMark, vertexAt, verticesIn}
-use Rattle.workspace.specs.Steps.{withVertex}
+use Rattle.workspace.specs.Layout.{hasMark, vertexAt, verticesIn, withVertex}
 
 -- ---- the marks
 

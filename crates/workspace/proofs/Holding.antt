@@ -16,8 +16,7 @@ use Rattle.search.specs.Outcome.{edgesBelow, firstEdges, vertexWords, workWords
 use Rattle.workspace.specs.declared.Size.{Size}
 use Rattle.workspace.specs.Layout.{base, Room, verticesOf, written, firstOf, edgeAt, edgesRun, edgesAt, edgesUnder, graphOf, graphWords, Ready}
 use Rattle.workspace.specs.Holds.{Rising, then, Holds}
-use Rattle.workspace.proofs.Firsts.{passes-rising, below-none, below-all, below-rise, below-most, tail-at}
-use Rattle.workspace.proofs.Loading.{length-firsts, length-graph}
+use Rattle.workspace.proofs.Firsts.{passes-rising, below-none, below-all, below-rise, below-most, tail-at, length-firsts, length-graph}
 use Rattle.workspace.proofs.Written.{length-written, verticesOf-written, written-written, Loaded, ready-loaded, graphOf-written}
 
 -- the edges of an accepted plan rise

@@ -12,8 +12,7 @@ use Rattle.search.specs.declared.Vertex.{Vertex}
 use Rattle.search.specs.Job.{at}
 use Rattle.search.specs.Outcome.{vertexWords}
 use Rattle.workspace.specs.declared.Size.{Size}
-use Rattle.workspace.specs.Layout.{base, Room, vertexAt, verticesOf, written, firstOf, edgeAt, edgesRun, edgesAt, edgesUnder, graphOf, Ready}
-use Rattle.workspace.specs.Steps.{withVertex}
+use Rattle.workspace.specs.Layout.{base, Room, vertexAt, verticesOf, written, withVertex, firstOf, edgeAt, edgesRun, edgesAt, edgesUnder, graphOf, Ready}
 use Rattle.workspace.proofs.Four.{length-vertices, vertexAt-drop, at-vertices, over-none, length-over, vertices-over, over-over, over-set, over-more}
 
 module _ (z : Size) (w : List ℕ) where

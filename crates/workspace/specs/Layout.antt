@@ -4,11 +4,12 @@ use mathlib.Core.Path.{_≡_}
 use mathlib.Core.Bool.{Bool}
 use mathlib.Core.List.{List, [], _∷_, _++_, map}
 use lib.Dec.{eqb}
-use lib.ListN.{length, getD, take, drop}
+use lib.ListN.{length, getD, set, take, drop, replicate}
+use lib.Seq.{sets}
 use Rattle.graph.specs.declared.Edge.{Edge}
 use Rattle.graph.specs.Lists.{headOf, costOf, over}
 use Rattle.search.specs.declared.Vertex.{Vertex}
-use Rattle.search.specs.Outcome.{firstEdges, vertexWords}
+use Rattle.search.specs.Outcome.{firstEdges, markWord, vertexWords}
 use Rattle.search.specs.Bounds.{maxG}
 use Rattle.workspace.specs.declared.Size.{Size}
 
@@ -51,6 +52,10 @@ verticesOf z w = verticesIn (z .vertices) (drop (base z) w)
 unfoldable pub written : Size → List Vertex → List ℕ → List ℕ
 written z st w = take (base z) w ++ over (vertexWords st) (drop (base z) w)
 
+-- the words with a vertex stored from o on
+unfoldable pub withVertex : List ℕ → ℕ → Vertex → List ℕ
+withVertex w o x = set (set (set (set w o (x .g)) (o + 1) (x .v)) (o + 2) (x .pred)) (o + 3) (markWord x)
+
 -- ---- the graph
 
 -- the number of the first edge of vertex t; for t = V the count of edges
@@ -81,6 +86,11 @@ graphOf z w = edgesUnder z w (z .vertices) 0
 -- the words of a graph: first edges, heads, costs
 unfoldable pub graphWords : ℕ → List Edge → List ℕ
 graphWords v es = firstEdges (suc v) 0 es ++ (map headOf es ++ map costOf es)
+
+-- the words with edge j, which follows one with the tail `before`: the vertices after that tail, up to its own, begin with edge j
+unfoldable pub withEdge : Size → ℕ → ℕ → Edge → List ℕ → List ℕ
+withEdge z before j e w =
+    set (set (sets w (before + 1) (replicate (e .tail - before) j)) (z .vertices + 1 + j) (e .head)) (z .vertices + 1 + z .edges + j) (e .cost)
 
 -- ---- what contracts ask
 

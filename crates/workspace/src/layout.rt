@@ -1,9 +1,9 @@
-// Load and store of a vertex; the first edge of a vertex, and an edge.
+// Vertices loaded and stored; the first edge of a vertex, and an edge.
 ghost use mathlib.Core.Path.{_≡_};
-ghost use Prim.Native.Nat.{_<_, _≤_};
+ghost use Prim.Native.Nat.{_+_, _*_, _<_, _≤_};
 ghost use lib.ListN.{set};
 ghost use Rattle.search.specs.Job.{at};
-ghost use Rattle.workspace.specs.Layout.{Room, verticesOf, written, firstOf, edgeAt, Fits, Ready};
+ghost use Rattle.workspace.specs.Layout.{base, Room, verticesOf, written, withVertex, firstOf, edgeAt, Fits, Ready};
 use crate::Size;
 use crate::words;
 use graph::Edge;
@@ -30,12 +30,30 @@ pub fn load(work: &[u32], z: Size, p: u32) -> Vertex
     }
 }
 
+// Stores vertex p over any words.
+pub fn put(work: &mut [u32], z: Size, p: u32, x: Vertex)
+    requires { ⌜ Room z (now work) × (p < z .vertices) × Fits x ⌝ }
+    ensures { λ _. ⌜ now (work .exit) ≡ withVertex (now (work .entry)) (base z + 4 * p) x ⌝ }
+{
+    let o = words::base(z) + 4 * (p as usize);
+    let marks = words::mark(1, x.inad)
+        + words::mark(2, x.anchor)
+        + words::mark(4, x.opened)
+        + words::mark(8, x.incons);
+    let g = x.g;
+    let v = x.v;
+    work[o] = g as u32;
+    work[o + 1] = v as u32;
+    work[o + 2] = x.pred;
+    work[o + 3] = marks;
+}
+
 // Vertex p becomes x.
 pub fn store(work: &mut [u32], z: Size, p: u32, x: Vertex)
     requires { ⌜ Ready z (now work) × (p < z .vertices) × Fits x ⌝ }
     ensures { λ _. ⌜ now (work .exit) ≡ written z (set (verticesOf z (now (work .entry))) p x) (now (work .entry)) ⌝ }
 {
-    words::put(work, z, p, x);
+    put(work, z, p, x);
 }
 
 // The number of the first edge of vertex t; for t = V the count of edges.

@@ -1,7 +1,5 @@
-// Work memory: where the graph and the vertices lie in lent words. Only this crate knows.
+// Work memory: where the graph and the vertices lie in lent words, read and written there.
 pub mod layout;
-pub mod loader;
-pub mod rounds;
 mod words;
 
 // The counts of vertices and edges.

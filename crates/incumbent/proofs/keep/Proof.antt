@@ -2,8 +2,9 @@
 use mathlib.Core.Path.{sym, ap, _∙_}
 use Rattle.search.specs.declared.RouteCost.{RouteCost}
 use Rattle.search.specs.Rounds.{improves}
-use Rattle.incumbent.specs.Kept.{tracedIn, tracedCost}
-use Rattle.incumbent.proofs.Ended.{figures-length, figures-cost, keeps-new, keeps-old, broken-not}
+use Rattle.tracing.specs.Trace.{tracedIn, tracedCost}
+use Rattle.tracing.proofs.Traces.{figures-length, figures-cost}
+use Rattle.incumbent.proofs.Ended.{keeps-new, keeps-old, broken-not}
 use borrow.Author.Needs.{needs}
 use Rattle.incumbent.proofs.keep.Statement.{statement}
 use Rattle.incumbent.proofs.keep.Tie as tie
@@ -11,7 +12,7 @@ use Rattle.incumbent.proofs.keep.Reads as reads
 use Rattle.incumbent.proofs.keep.Lts as lts
 use Rattle.incumbent.proofs.improves.Reads as improves-reads
 use Rattle.incumbent.proofs.laying.lay.Reads as lay-reads
-use Rattle.incumbent.proofs.tracing.traced.Reads as traced-reads
+use Rattle.tracing.proofs.preds.traced.Reads as traced-reads
 
 -- src/lib.rt:44:9
 traced-requires : tie.Need-traced-requires

@@ -7,7 +7,7 @@ use Rattle.rounds.proofs.reopen_next.Statement.{statement}
 use Rattle.rounds.proofs.reopen_next.Tie as tie
 use Rattle.rounds.proofs.reopen_next.Reads as reads
 use Rattle.rounds.proofs.reopen_next.Lts as lts
-use Rattle.workspace.proofs.rounds.reopen.Reads as reopen-reads
+use Rattle.opening.proofs.reopen.Reads as reopen-reads
 
 -- src/lib.rt:36:8
 add-if1 : tie.Need-add-if1

@@ -7,8 +7,8 @@ use Rattle.stages.proofs.begin.begin.Reads as reads
 use Rattle.stages.proofs.begin.begin.Lts as lts
 use Rattle.rounds.proofs.settle.Reads as settle-reads
 use Rattle.progress.proofs.at_first.Reads as at-first-reads
-use Rattle.workspace.proofs.loader.load_graph.Reads as load-graph-reads
-use Rattle.workspace.proofs.rounds.at_first.Reads as rounds-at-first-reads
+use Rattle.loader.proofs.load_graph.Reads as load-graph-reads
+use Rattle.opening.proofs.at_first.Reads as opening-at-first-reads
 
 -- src/begin.rt:23:5
 load-graph-requires : tie.Need-load-graph-requires

@@ -9,7 +9,7 @@ use Rattle.stages.proofs.turns.advance.Tie as tie
 use Rattle.stages.proofs.turns.advance.Reads as reads
 use Rattle.stages.proofs.turns.advance.Lts as lts
 use Rattle.schedule.proofs.factors.Reads as factors-reads
-use Rattle.expansion.proofs.turns.turn.Reads as turn-reads
+use Rattle.turn.proofs.turn.Reads as turn-reads
 use Rattle.rounds.proofs.settle.Reads as settle-reads
 use Rattle.progress.proofs.after_turn.Reads as after-turn-reads
 

@@ -6,7 +6,7 @@ use Rattle.workspace.proofs.layout.store.Statement.{statement}
 use Rattle.workspace.proofs.layout.store.Tie as tie
 use Rattle.workspace.proofs.layout.store.Reads as reads
 use Rattle.workspace.proofs.layout.store.Lts as lts
-use Rattle.workspace.proofs.words.put.Reads as put-reads
+use Rattle.workspace.proofs.layout.put.Reads as put-reads
 
 -- src/layout.rt:38:5
 put-requires : tie.Need-put-requires

@@ -1,0 +1,47 @@
+// The vertices of work memory at first, and at a round's beginning.
+ghost use mathlib.Core.Path.{_≡_};
+ghost use mathlib.Core.List.{map};
+ghost use Prim.Native.Nat.{_<_};
+ghost use lib.ListN.{set};
+ghost use Rattle.search.specs.Job.{at, atFirst};
+ghost use Rattle.search.specs.Rounds.{reopened};
+ghost use Rattle.workspace.specs.Layout.{Room, verticesOf, written, Ready};
+use search::Vertex;
+use workspace::Size;
+use workspace::layout;
+
+// The vertices at first, over any words.
+pub fn at_first(work: &mut [u32], z: Size, start: u32)
+    requires { ⌜ Room z (now work) × (start < z .vertices) ⌝ }
+    ensures { λ _. ⌜ now (work .exit) ≡ written z (atFirst (z .vertices) start) (now (work .entry)) ⌝ }
+{
+    let vertices = z.vertices;
+    let mut p: u32 = 0;
+    while p < vertices {
+        layout::put(work, z, p, Vertex::fresh());
+        p += 1;
+    }
+    layout::put(work, z, start, vertices::origin());
+}
+
+// Vertex p at a round's beginning.
+fn reopen_one(work: &mut [u32], z: Size, p: u32)
+    requires { ⌜ Ready z (now work) × (p < z .vertices) ⌝ }
+    ensures { λ _. ⌜ now (work .exit) ≡ written z (set (verticesOf z (now (work .entry))) p (reopened (at (verticesOf z (now (work .entry))) p))) (now (work .entry)) ⌝ }
+{
+    let x = layout::load(work, z, p);
+    layout::store(work, z, p, vertices::reopened(x));
+}
+
+// All vertices at a round's beginning.
+pub fn reopen(work: &mut [u32], z: Size)
+    requires { ⌜ Ready z (now work) ⌝ }
+    ensures { λ _. ⌜ now (work .exit) ≡ written z (map reopened (verticesOf z (now (work .entry)))) (now (work .entry)) ⌝ }
+{
+    let vertices = z.vertices;
+    let mut s: u32 = 0;
+    while s < vertices {
+        reopen_one(work, z, s);
+        s += 1;
+    }
+}

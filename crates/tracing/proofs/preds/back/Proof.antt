@@ -1,0 +1,38 @@
+-- `back` meets its contract. Assumes nothing.
+use native.Mathlib.Omega.{arith}
+use Rattle.workspace.specs.Layout.{graphOf}
+use Rattle.tracing.proofs.Traces.{most-le, back-step}
+use borrow.Author.Needs.{needs}
+use Rattle.tracing.proofs.preds.back.Statement.{statement}
+use Rattle.tracing.proofs.preds.back.Tie as tie
+use Rattle.tracing.proofs.preds.back.Reads as reads
+use Rattle.tracing.proofs.preds.back.Lts as lts
+use Rattle.tracing.proofs.edges.edge_cost.Reads as edge-cost-reads
+use Rattle.tracing.proofs.preds.plus.Reads as plus-reads
+use Rattle.tracing.proofs.preds.pred_of.Reads as pred-of-reads
+
+-- src/preds.rt:49:9
+pred-of-requires : tie.Need-pred-of-requires
+pred-of-requires c κs = search needs
+
+-- src/preds.rt:50:9
+edge-cost-requires : tie.Need-edge-cost-requires
+edge-cost-requires c κs = search needs
+
+-- src/preds.rt:52:9
+plus-requires : tie.Need-plus-requires
+plus-requires c κs = (c .edge-cost .ensures .1, most-le _ _ _ (omega (arith, c .before .before .before .pre .1)) (c .before .before .before .pre .2))
+
+-- src/preds.rt:55:17
+add-t10 : tie.Need-add-t10
+add-t10 c = search needs
+
+-- src/preds.rt:43:1
+returns : tie.Need-returns
+returns c =
+    let s = c .before .before .before .before in
+    let e = c .before .edge-cost .ensures in
+    back-step (graphOf (s .args .z) (s .args .work .now)) _ (s .args .t) _ _ _ (c .before .before .pred-of .ensures) (e .0) (e .1) (c .plus .ensures) (s .pre .2)
+
+pub back-spec : {M : Type 1} → statement M
+back-spec = tie.close (tie.spec pred-of-requires edge-cost-requires plus-requires add-t10 returns)

@@ -1,0 +1,32 @@
+-- `step` meets its contract. Assumes nothing.
+use Rattle.turn.proofs.Keys.{due-within}
+use borrow.Author.Needs.{needs}
+use Rattle.turn.proofs.step.Statement.{statement}
+use Rattle.turn.proofs.step.Tie as tie
+use Rattle.turn.proofs.step.Reads as reads
+use Rattle.turn.proofs.step.Lts as lts
+use Rattle.turn.proofs.scan.least.Reads as least-reads
+use Rattle.rules.proofs.step_one.Reads as step-one-reads
+use Rattle.workspace.proofs.layout.load.Reads as load-reads
+
+-- src/lib.rt:27:9
+load-requires : tie.Need-load-requires
+load-requires c κs = search needs
+
+-- src/lib.rt:28:9
+least-requires : tie.Need-least-requires
+least-requires c κs = search needs
+
+-- src/lib.rt:29:5
+step-one-requires : tie.Need-step-one-requires
+step-one-requires c κs = search needs
+
+-- src/lib.rt:21:1
+returns : tie.Need-returns
+returns c = (
+  rw (c .step-one .ensures, c .before .least .ensures .0, c .before .before .load .ensures .0),
+  rw (c .step-one .ensures) (due-within _ _ _ _ (c .before .least .ensures .1)),
+)
+
+pub step-spec : {M : Type 1} → statement M
+step-spec = tie.close (tie.spec load-requires least-requires step-one-requires returns)

@@ -1,0 +1,40 @@
+-- `turn` meets its contract. Assumes nothing.
+use borrow.Author.Needs.{needs}
+use Rattle.turn.proofs.turn.Statement.{statement}
+use Rattle.turn.proofs.turn.Tie as tie
+use Rattle.turn.proofs.turn.Reads as reads
+use Rattle.turn.proofs.turn.Lts as lts
+use Rattle.expansion.proofs.expand.Reads as expand-reads
+use Rattle.turn.proofs.choice.Reads as choice-reads
+use Rattle.turn.proofs.note.Reads as note-reads
+
+-- src/lib.rt:95:9
+choice-requires : tie.Need-choice-requires
+choice-requires c κs = search needs
+
+-- src/lib.rt:96:5
+note-requires : tie.Need-note-requires
+note-requires c κs = search needs
+
+-- src/lib.rt:97:5
+expand-requires : tie.Need-expand-requires
+expand-requires c κs = search needs
+
+-- src/lib.rt:80:1
+same-length : tie.Need-same-length
+same-length c = search needs
+
+-- src/lib.rt:80:1
+same-length-2 : tie.Need-same-length-2
+same-length-2 c = search needs
+
+-- src/lib.rt:80:1
+returns : tie.Need-returns
+returns c =
+    let q = c .before .before .before .before .before .before .before .before .choice .ensures .0 in
+    (rw q at (c .before .before .expand .ensures), rw q at (c .before .before .before .before .before .before .note .ensures))
+
+pub turn-spec : {M : Type 1} → statement M
+turn-spec =
+    tie.close
+    (tie.spec choice-requires note-requires expand-requires same-length same-length-2 returns)
