@@ -2,10 +2,10 @@
 use native.Mathlib.Omega.{arith}
 use lib.ListN.{length-append}
 use borrow.Author.Needs.{needs}
 use Rattle.text.specs.Text.{ascii, field, turnLine}
 use Rattle.text.proofs.Laid.{put-length, then-put}
-use Rattle.text.proofs.put_turn_line.Statement.{statement}
-use Rattle.text.proofs.put_turn_line.Tie as tie
+use Rattle.lines.proofs.put_turn_line.Statement.{statement}
+use Rattle.lines.proofs.put_turn_line.Tie as tie
 
 slice-aggregate-put-field : tie.Need-slice-aggregate-put-field
 slice-aggregate-put-field c = search needs

@@ -1,8 +1,8 @@
 -- `put_vertex` meets its contract: a space, and after it the vertex. Assumes nothing.
 use borrow.Author.Needs.{needs}
 use Rattle.text.specs.Text.{ascii}
-use Rattle.text.proofs.put_vertex.Statement.{statement}
-use Rattle.text.proofs.put_vertex.Tie as tie
+use Rattle.lines.proofs.put_vertex.Statement.{statement}
+use Rattle.lines.proofs.put_vertex.Tie as tie
 
 slice-aggregate-put-field : tie.Need-slice-aggregate-put-field
 slice-aggregate-put-field c = search needs

@@ -2,10 +2,10 @@
 use native.Mathlib.Omega.{arith}
 use lib.ListN.{length-append}
 use borrow.Author.Needs.{needs}
 use Rattle.text.specs.Text.{ascii, routeLine}
 use Rattle.text.proofs.Laid.{put-length, then-put}
-use Rattle.text.proofs.put_route_line.Statement.{statement}
-use Rattle.text.proofs.put_route_line.Tie as tie
+use Rattle.lines.proofs.put_route_line.Statement.{statement}
+use Rattle.lines.proofs.put_route_line.Tie as tie
 
 slice-aggregate-put-word : tie.Need-slice-aggregate-put-word
 slice-aggregate-put-word c = search needs

@@ -3,12 +3,12 @@ use Prim.Native.Nat.{_≤_, _-_}
 use native.Mathlib.Omega.{arith}
 use lib.ListN.{take}
 use borrow.Author.Needs.{needs}
 use Rattle.text.specs.Laid.{Put}
 use Rattle.text.specs.Text.{spaced, vertices}
 use Rattle.text.proofs.Laid.{put-length}
-use Rattle.text.proofs.Each.{none-each, next-each, each-counted, take-least}
-use Rattle.text.proofs.put_vertices.Statement.{statement}
-use Rattle.text.proofs.put_vertices.Tie as tie
+use Rattle.lines.proofs.Each.{none-each, next-each, each-counted, take-least}
+use Rattle.lines.proofs.put_vertices.Statement.{statement}
+use Rattle.lines.proofs.put_vertices.Tie as tie
 
 abbrev Inv-loop : tie.InvT-loop
 Inv-loop out₀ at route count shown next₀ i₀ out next i = Put at (vertices (take i route)) out₀ next out × (i ≤ shown)

@@ -1,8 +1,8 @@
 -- `put_logged_line` meets its contract: the log word's heuristic and vertex. Assumes nothing.
 use borrow.Author.Needs.{needs}
 use Rattle.text.specs.Text.{loggedLine}
-use Rattle.text.proofs.put_logged_line.Statement.{statement}
-use Rattle.text.proofs.put_logged_line.Tie as tie
+use Rattle.lines.proofs.put_logged_line.Statement.{statement}
+use Rattle.lines.proofs.put_logged_line.Tie as tie
 
 put-turn-line-requires : tie.Need-put-turn-line-requires
 unfolding loggedLine
