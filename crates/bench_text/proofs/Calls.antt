@@ -13,11 +13,11 @@ use Rattle.search.specs.Outcome.{figures, answer, memoryAfter}
 use Rattle.job.specs.declared.Front.{Front}
 use Rattle.job.specs.declared.JobRead.the-variants.{Accepted}
 use Rattle.job.specs.Reading.{jobRead, planOf, tableCount}
-use Rattle.job.specs.Numbers.{values}
+use Rattle.job_numbers.specs.Numbers.{values}
 use Rattle.job.specs.Asked.{scheduleOf, tablesOf, anchorOf, sheetsOf, callWith, callOf}
 use Rattle.job.specs.Printed.{printed, callText}
 use Rattle.job.proofs.Accepted.{Ready, accepted-ready}
-use Rattle.bench_text.specs.Shown.{Texts}
+use Rattle.answer_text.specs.Shown.{Texts}
 use Rattle.bench_text.specs.Steps.{Stored}
 
 -- ---- numbers stored at an array's front

@@ -1,3 +1,2 @@
 -- The laws behind the proofs of this crate.
-pub mod Lines
 pub mod Calls

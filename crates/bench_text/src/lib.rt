@@ -1,9 +1,8 @@
 // Job bytes to printed text, in a lent buffer.
 mod asked;
-mod ending;
 
 ghost use Rattle.job.specs.Printed.{benchText};
-ghost use Rattle.bench_text.specs.Shown.{Texts};
+ghost use Rattle.answer_text.specs.Shown.{Texts};
 use job::JobRead;
 
 // The text that the bench program prints for a job: its length, and its first bytes in the buffer, as far as
@@ -13,6 +12,6 @@ pub fn bench_text(job: &[u8], out: &mut [u8]) -> usize
 {
     match job::read(job) {
         JobRead::Accepted(front, vertices) => asked::put_job(out, job, front, vertices),
-        JobRead::Refused(n, p) => ending::put_refused(out, n, p),
+        JobRead::Refused(n, p) => answer_text::put_refused(out, n, p),
     }
 }

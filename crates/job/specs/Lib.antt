@@ -1,8 +1,6 @@
 -- The definitions that the contracts cite, in reading order.
-pub mod Numbers
 pub mod Reading
 pub mod Asked
 pub mod Printed
 pub mod JobA
 pub mod Refusals
-pub mod Steps

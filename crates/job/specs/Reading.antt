@@ -11,13 +11,13 @@ use Rattle.graph.specs.declared.PlanRead.{PlanRead}
 use Rattle.graph.specs.declared.PlanRead.the-variants as checked
 use Rattle.graph.specs.Plan.{decode, sizes}
 use Rattle.job.specs.declared.Front.{Front}
-use Rattle.job.specs.declared.NumbersRead.{NumbersRead}
-use Rattle.job.specs.declared.NumbersRead.the-variants.{Past, Malformed}
+use Rattle.job_numbers.specs.declared.NumbersRead.{NumbersRead}
+use Rattle.job_numbers.specs.declared.NumbersRead.the-variants.{Past, Malformed}
 use Rattle.job.specs.declared.FrontRead.{FrontRead}
 use Rattle.job.specs.declared.FrontRead.the-variants.{Whole, Broken}
 use Rattle.job.specs.declared.JobRead.{JobRead}
 use Rattle.job.specs.declared.JobRead.the-variants.{Accepted, Refused}
-use Rattle.job.specs.Numbers.{endOf}
+use Rattle.job_numbers.specs.Numbers.{endOf}
 
 -- ---- limits
 

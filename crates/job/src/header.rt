@@ -5,8 +5,7 @@ use crate::Front;
 use crate::FrontRead;
 use crate::MAX_GUIDES;
 use crate::MAX_ROUNDS;
-use crate::NumbersRead;
-use crate::numbers;
+use job_numbers::NumbersRead;
 use leb128::NumberRead;
 
 // Rounds and factors, and the guide count.
@@ -27,7 +26,7 @@ fn read_rounds(
     if MAX_ROUNDS < rounds {
         return FrontRead::Broken;
     }
-    let NumbersRead::Past(guides_at) = numbers::past(job, factors, 2 * rounds as usize) else {
+    let NumbersRead::Past(guides_at) = job_numbers::past(job, factors, 2 * rounds as usize) else {
         return FrontRead::Broken;
     };
     let NumberRead::Value(guides, tables) = leb128_reader::read_job_number(job, guides_at) else {

@@ -1,12 +1,12 @@
 // Jobs of the bench program, as bytes: plan length, the plan, start, goal, allowance, rounds and factors,
 // guide count, anchor table, guide sheets.
 mod header;
-pub mod numbers;
 
 ghost use mathlib.Core.Path.{_≡_};
 ghost use Rattle.job.specs.Reading.{jobRead, afterPlan, afterSizes};
 use cursor::check;
 use graph::PlanRead;
+use job_numbers::NumbersRead;
 
 // The limits of a job: its bytes, vertices (places) and edges (lanes), rounds and guides.
 pub const MAX_BYTES: usize = 32768;
@@ -33,12 +33,6 @@ pub struct Front {
     pub tables: usize,
 }
 
-// The offset past some numbers; or one is missing or of bad form.
-pub enum NumbersRead {
-    Past(usize),
-    Malformed,
-}
-
 // What stands before the tables; or refusal 14.
 pub enum FrontRead {
     Whole(Front),
@@ -62,7 +56,8 @@ fn read_tables(job: &[u8], front: Front, vertices: u32, edges: u32) -> JobRead
         return JobRead::Refused(14, 0);
     }
     let count = 1 + front.guides as usize;
-    let NumbersRead::Past(end) = numbers::past(job, front.tables, count * vertices as usize) else {
+    let NumbersRead::Past(end) = job_numbers::past(job, front.tables, count * vertices as usize)
+    else {
         return JobRead::Refused(14, 0);
     };
     if end < job.len() {

@@ -1,0 +1,31 @@
+-- `put_no_route` meets its contract: the turn lines, then the last line. Assumes nothing.
+use native.Mathlib.Omega.{arith}
+use Rattle.search.specs.Outcome.{figures}
+use Rattle.job.specs.Printed.{turns, ending, printed}
+use Rattle.answer_text.proofs.Lines.{turns-few, no-route-few, one-line}
+use borrow.Author.Needs.{needs}
+use Rattle.answer_text.proofs.put_no_route.Statement.{statement}
+use Rattle.answer_text.proofs.put_no_route.Tie as tie
+
+put-turn-lines-requires : tie.Need-put-turn-lines-requires
+put-turn-lines-requires c κs =
+    omega (arith, turns-few (c .before .before .before .before .args .turns) (c .before .before .before .before .args .log .now) (c .before .shared-slice-known2 .given) (c .before .before .before .before .pre .short-log))
+
+put-no-route-line-requires : tie.Need-put-no-route-line-requires
+put-no-route-line-requires c κs =
+    let a = c .before .before .before .before .before .before .before .before in
+    omega (arith, turns-few (a .args .turns) (a .args .log .now) (c .before .before .before .before .before .shared-slice-known2 .given) (a .pre .short-log), c .before .before .before .put-turn-lines .ensures .next, no-route-few (a .args .turns) (omega arith))
+
+same-length : tie.Need-same-length
+same-length c = search needs
+
+returns : tie.Need-returns
+unfolding printed ending turns figures
+returns c =
+    let a = c .before .before .before .before .before .before .before .before .before .before .before in
+    let few = no-route-few (a .args .turns) (omega arith) in
+    one-line (a .args .turns) (a .args .log .now) _ (c .before .before .before .before .before .before .before .before .shared-slice-known2 .given) (a .pre .short-log) (omega arith) (c .before .before .before .before .before .before .put-turn-lines .ensures) (c .before .before .put-no-route-line .ensures)
+
+pub put-no-route-spec : {M : Type 1} → statement M
+put-no-route-spec =
+    tie.close (tie.spec put-turn-lines-requires put-no-route-line-requires same-length returns)

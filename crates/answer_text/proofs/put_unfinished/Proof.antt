@@ -1,0 +1,31 @@
+-- `put_unfinished` meets its contract: the turn lines, then the last line. Assumes nothing.
+use native.Mathlib.Omega.{arith}
+use Rattle.search.specs.Outcome.{figures}
+use Rattle.job.specs.Printed.{turns, ending, printed}
+use Rattle.answer_text.proofs.Lines.{turns-few, unfinished-few, one-line}
+use borrow.Author.Needs.{needs}
+use Rattle.answer_text.proofs.put_unfinished.Statement.{statement}
+use Rattle.answer_text.proofs.put_unfinished.Tie as tie
+
+put-turn-lines-requires : tie.Need-put-turn-lines-requires
+put-turn-lines-requires c κs =
+    omega (arith, turns-few (c .before .before .before .before .args .turns) (c .before .before .before .before .args .log .now) (c .before .shared-slice-known2 .given) (c .before .before .before .before .pre .short-log))
+
+put-unfinished-line-requires : tie.Need-put-unfinished-line-requires
+put-unfinished-line-requires c κs =
+    let a = c .before .before .before .before .before .before .before .before in
+    omega (arith, turns-few (a .args .turns) (a .args .log .now) (c .before .before .before .before .before .shared-slice-known2 .given) (a .pre .short-log), c .before .before .before .put-turn-lines .ensures .next, unfinished-few (a .args .turns) (omega arith))
+
+same-length : tie.Need-same-length
+same-length c = search needs
+
+returns : tie.Need-returns
+unfolding printed ending turns figures
+returns c =
+    let a = c .before .before .before .before .before .before .before .before .before .before .before in
+    let few = unfinished-few (a .args .turns) (omega arith) in
+    one-line (a .args .turns) (a .args .log .now) _ (c .before .before .before .before .before .before .before .before .shared-slice-known2 .given) (a .pre .short-log) (omega arith) (c .before .before .before .before .before .before .put-turn-lines .ensures) (c .before .before .put-unfinished-line .ensures)
+
+pub put-unfinished-spec : {M : Type 1} → statement M
+put-unfinished-spec =
+    tie.close (tie.spec put-turn-lines-requires put-unfinished-line-requires same-length returns)

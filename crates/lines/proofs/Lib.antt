@@ -1,0 +1,2 @@
+-- The laws behind the proofs of this crate.
+pub mod Each
