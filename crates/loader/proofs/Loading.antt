@@ -2,10 +2,10 @@
 -- Assumes nothing.
 use mathlib.Core.Path.{_≡_, refl, sym, ap, _∙_}
 use mathlib.Core.List.{List, [], _∷_, _++_, map, append-assoc, append-nil}
-use Prim.Native.Nat.{ℕ, zero, suc, _+_, _*_, _-_, _≤_, _<_}
+use Prim.Native.Nat.{ℕ, suc, _+_, _*_, _-_, _≤_, _<_}
 use native.Mathlib.Numerals.{add-one}
 use native.Mathlib.Omega.{arith}
-use lib.ListN.{length, set, take, drop, replicate, length-replicate, length-append, length-drop, length-set, length-map, take-append-drop, drop-of-length-le}
+use lib.ListN.{length, set, take, drop, replicate, length-replicate, length-drop, length-set, length-map, take-append-drop, drop-of-length-le}
 use lib.Seq.{sets, sets-eq, length-sets, set-append-left, length-take-le, drop-drop}
 use Rattle.graph.specs.declared.Edge.{Edge}
 use Rattle.graph.specs.declared.Cursor.{Cursor}

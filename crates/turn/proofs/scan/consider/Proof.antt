@@ -11,31 +11,31 @@ use Rattle.vertices.proofs.offered.Reads as offered-reads
 use Rattle.rules.proofs.Lead.better.Reads as better-reads
 use Rattle.workspace.proofs.layout.load.Reads as load-reads
 
--- src/scan.rt:28:13
+-- src/scan.rt:20:13
 mul-h : tie.Need-mul-h
 mul-h c = search needs
 
--- src/scan.rt:28:13
+-- src/scan.rt:20:13
 shared-slice-read-h : tie.Need-shared-slice-read-h
 shared-slice-read-h c = search needs
 
--- src/scan.rt:29:9
+-- src/scan.rt:21:9
 load-requires : tie.Need-load-requires
 load-requires c κs = search needs
 
--- src/scan.rt:30:8
+-- src/scan.rt:22:8
 offered-requires : tie.Need-offered-requires
 offered-requires c κs = search needs
 
--- src/scan.rt:31:28
+-- src/scan.rt:23:28
 key-requires : tie.Need-key-requires
 key-requires c κs = search needs
 
--- src/scan.rt:31:9
+-- src/scan.rt:23:9
 better-requires : tie.Need-better-requires
 better-requires c κs = search needs
 
--- src/scan.rt:31:9
+-- src/scan.rt:23:9
 returns : tie.Need-returns
 returns c =
     let s = c .before .before .before .before .before .before .before .before in
