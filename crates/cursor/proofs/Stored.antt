@@ -7,7 +7,6 @@ use mathlib.Core.List.{List, [], _∷_}
 use lib.ListN.{length}
 use Rattle.graph.specs.declared.Edge.{Edge}
 use Rattle.graph.specs.declared.Cursor.{Cursor}
-use Rattle.graph.specs.declared.PlanRead.{PlanRead}
 use Rattle.graph.specs.declared.PlanRead.the-variants.{Sizes, Refused}
 use Rattle.graph.specs.Plan.{Decoded, accepted, refused, firstAt, nextEdge, edgesFrom, sizes}
 use Rattle.graph.specs.Lists.{edgesIn}

@@ -7,19 +7,15 @@ use Rattle.cursor.proofs.fault.Tie as tie
 use Rattle.cursor.proofs.fault.Reads as reads
 use Rattle.cursor.proofs.fault.Lts as lts
 
--- src/lib.rt:25:32
 enum-told : tie.Need-enum-told
 enum-told c = search needs
 
--- src/lib.rt:26:20
 enum-known-taken : tie.Need-enum-known-taken
 enum-known-taken c = search needs
 
--- src/lib.rt:21:1
 returns : tie.Need-returns
 returns c = search needs
 
--- src/lib.rt:21:1
 returns-2 : tie.Need-returns-2
 returns-2 c = sym (ap cursorRefusal (c .before .taken .given .1))
 

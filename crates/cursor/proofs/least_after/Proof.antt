@@ -5,11 +5,9 @@ use Rattle.cursor.proofs.least_after.Tie as tie
 use Rattle.cursor.proofs.least_after.Reads as reads
 use Rattle.cursor.proofs.least_after.Lts as lts
 
--- src/lib.rt:14:1
 returns : tie.Need-returns
 returns c = simp (eq-eqb _ _ (c .if1 .taken))
 
--- src/lib.rt:14:1
 returns-2 : tie.Need-returns-2
 returns-2 c = simp (ne-eqb _ _ (c .if1 .left))
 

@@ -13,47 +13,36 @@ use Rattle.cursor.proofs.number.take_cost.Reads as take-cost-reads
 use Rattle.cursor.proofs.number.take_head.Reads as take-head-reads
 use Rattle.cursor.proofs.number.take_tail.Reads as take-tail-reads
 
--- src/lib.rt:49:13
 take-tail-requires : tie.Need-take-tail-requires
 take-tail-requires c κs = search needs
 
--- src/lib.rt:50:27
 enum-known-tail-read : tie.Need-enum-known-tail-read
 enum-known-tail-read c = search needs
 
--- src/lib.rt:51:13
 enum-told : tie.Need-enum-told
 enum-told c = search needs
 
--- src/lib.rt:51:13
 fault-requires : tie.Need-fault-requires
 fault-requires c κs = search needs
 
--- src/lib.rt:51:13
 returns : tie.Need-returns
 returns c = step-tail _ _ _ _ _ _ _ (c .fault .ensures) (c .before .enum-told .given .1) (c .before .before .before .take-tail .ensures)
 
--- src/lib.rt:53:13
 least-after-requires : tie.Need-least-after-requires
 least-after-requires c κs = search needs
 
--- src/lib.rt:54:13
 take-head-requires : tie.Need-take-head-requires
 take-head-requires c κs = search needs
 
--- src/lib.rt:55:27
 enum-known-head-read : tie.Need-enum-known-head-read
 enum-known-head-read c = search needs
 
--- src/lib.rt:56:13
 enum-told-2 : tie.Need-enum-told-2
 enum-told-2 c = search needs
 
--- src/lib.rt:56:13
 fault-requires-2 : tie.Need-fault-requires-2
 fault-requires-2 c κs = search needs
 
--- src/lib.rt:56:13
 returns-2 : tie.Need-returns-2
 returns-2 c =
     step-head _ _ _ _ _ _ _ (c .fault2 .ensures) (c .before .enum-told2 .given .1) _ _ _
@@ -61,23 +50,18 @@ returns-2 c =
     (c .before .before .before .before .least-after .ensures)
     (c .before .before .before .take-head .ensures)
 
--- src/lib.rt:58:13
 take-cost-requires : tie.Need-take-cost-requires
 take-cost-requires c κs = search needs
 
--- src/lib.rt:59:27
 enum-known-cost-read : tie.Need-enum-known-cost-read
 enum-known-cost-read c = search needs
 
--- src/lib.rt:60:13
 enum-told-3 : tie.Need-enum-told-3
 enum-told-3 c = search needs
 
--- src/lib.rt:60:13
 fault-requires-3 : tie.Need-fault-requires-3
 fault-requires-3 c κs = search needs
 
--- src/lib.rt:60:13
 returns-3 : tie.Need-returns-3
 returns-3 c =
     step-cost _ _ _ _ _ _ _ (c .fault3 .ensures) (c .before .enum-told3 .given .1) _ _ _ _ _
@@ -86,15 +70,12 @@ returns-3 c =
     (sym (c .before .before .before .before .before .before .before .take-head .ensures) ∙ c .before .before .before .before .before .head-read .given .1)
     (c .before .before .before .take-cost .ensures)
 
--- src/lib.rt:62:20
 add-tail : tie.Need-add-tail
 add-tail c = omega (arith, taken-tail _ _ _ _ _ _ (sym (c .before .before .before .before .before .before .before .before .before .before .before .before .take-tail .ensures) ∙ c .before .before .before .before .before .before .before .before .before .before .tail-read .given .1))
 
--- src/lib.rt:68:24
 add-t19 : tie.Need-add-t19
 add-t19 c = omega (arith, taken-head _ _ _ _ _ _ (sym (c .before .before .before .before .before .before .before .take-head .ensures) ∙ c .before .before .before .before .before .head-read .given .1))
 
--- src/lib.rt:43:5
 returns-4 : tie.Need-returns-4
 returns-4 c =
     step-edge _ _ _ _ _ _ _ _ _ _

@@ -10,66 +10,51 @@ use Rattle.cursor.proofs.step_checked.Reads as reads
 use Rattle.cursor.proofs.step_checked.Lts as lts
 use Rattle.leb128_reader.proofs.read_plan_number.Reads as read-plan-number-reads
 
--- src/lib.rt:81:54
 read-plan-number-requires : tie.Need-read-plan-number-requires
 read-plan-number-requires c κs = search needs
 
--- src/lib.rt:81:31
 enum-known-difference : tie.Need-enum-known-difference
 enum-known-difference c = search needs
 
--- src/lib.rt:82:13
 enum-told : tie.Need-enum-told
 enum-told c = search needs
 
--- src/lib.rt:82:13
 returns : tie.Need-returns
 returns c = absurd (tail-there _ _ _ (c .before .before .before .before .pre) _ (sym (c .before .before .read-plan-number .ensures) ∙ c .enum-told .given .1))
 
--- src/lib.rt:84:48
 read-plan-number-requires-2 : tie.Need-read-plan-number-requires-2
 read-plan-number-requires-2 c κs = search needs
 
--- src/lib.rt:84:31
 enum-known-head : tie.Need-enum-known-head
 enum-known-head c = search needs
 
--- src/lib.rt:85:13
 enum-told-2 : tie.Need-enum-told-2
 enum-told-2 c = search needs
 
--- src/lib.rt:85:13
 returns-2 : tie.Need-returns-2
 returns-2 c =
     absurd (head-there _ _ _ (c .before .before .before .before .before .before .before .before .pre) _ _ (sym (c .before .before .before .before .before .before .read-plan-number .ensures) ∙ c .before .before .before .before .difference .given .1) _ (sym (c .before .before .read-plan-number2 .ensures) ∙ c .enum-told2 .given .1))
 
--- src/lib.rt:87:44
 read-plan-number-requires-3 : tie.Need-read-plan-number-requires-3
 read-plan-number-requires-3 c κs = search needs
 
--- src/lib.rt:87:31
 enum-known-cost : tie.Need-enum-known-cost
 enum-known-cost c = search needs
 
--- src/lib.rt:88:13
 enum-told-3 : tie.Need-enum-told-3
 enum-told-3 c = search needs
 
--- src/lib.rt:88:13
 returns-3 : tie.Need-returns-3
 returns-3 c =
     absurd (cost-there _ _ _ (c .before .before .before .before .before .before .before .before .before .before .before .before .pre) _ _ (sym (c .before .before .before .before .before .before .before .before .before .before .read-plan-number .ensures) ∙ c .before .before .before .before .before .before .before .before .difference .given .1) _ _ (sym (c .before .before .before .before .before .before .read-plan-number2 .ensures) ∙ c .before .before .before .before .head .given .1) _
     (sym (c .before .before .read-plan-number3 .ensures) ∙ c .enum-told3 .given .1))
 
--- src/lib.rt:90:20
 add-tail : tie.Need-add-tail
 add-tail c = omega (arith, taken-tail _ _ _ _ _ _ (tail-taken _ _ _ (c .before .before .before .before .before .before .before .before .before .before .before .before .before .pre) _ _ (sym (c .before .before .before .before .before .before .before .before .before .before .before .read-plan-number .ensures) ∙ c .before .before .before .before .before .before .before .before .before .difference .given .1)))
 
--- src/lib.rt:96:24
 add-t17 : tie.Need-add-t17
 add-t17 c = omega (arith, taken-head _ _ _ _ _ _ (head-taken _ _ _ (c .before .before .before .before .before .before .before .before .before .before .before .before .before .pre) _ _ (sym (c .before .before .before .before .before .before .before .before .before .before .before .read-plan-number .ensures) ∙ c .before .before .before .before .before .before .before .before .before .difference .given .1) _ _ (sym (c .before .before .before .before .before .before .before .read-plan-number2 .ensures) ∙ c .before .before .before .before .before .head .given .1)))
 
--- src/lib.rt:75:5
 returns-4 : tie.Need-returns-4
 returns-4 c =
     let h = c .before .before .before .before .before .before .before .before .before .before .before .before .before .pre in

@@ -20,15 +20,12 @@ Inv-loop bytes vertices edges at tails₀ heads₀ costs₀ count cursor₀ i₀
 abbrev μ-loop : tie.MeasureT-loop
 μ-loop bytes vertices edges at tails₀ heads₀ costs₀ count cursor₀ i₀ tails heads costs cursor i = edges - i
 
--- src/lib.rt:55:9
 first-requires : tie.Need-first-requires Inv-loop μ-loop
 first-requires c κs = search needs
 
--- src/lib.rt:57:5
 loop-holds : tie.Need-loop-holds Inv-loop μ-loop
 loop-holds c = filled-none _ _ _ _ _ _ _ _ (c .first .ensures) (c .before .before .before .before .before .pre .0)
 
--- src/lib.rt:58:9
 store-requires : tie.Need-store-requires Inv-loop μ-loop
 store-requires c κs =
     let a = c .before .before .before .before .before .before .before .before .before .before in
@@ -41,33 +38,26 @@ store-requires c κs =
       ),
     )
 
--- src/lib.rt:59:9
 add-i : tie.Need-add-i Inv-loop μ-loop
 add-i c = omega arith
 
--- src/lib.rt:57:5
 loop-less : tie.Need-loop-less Inv-loop μ-loop
 loop-less c = omega arith
 
--- src/lib.rt:57:5
 loop-again : tie.Need-loop-again Inv-loop μ-loop
 loop-again c =
     let e = c .before .before .before .before .before .before .store .ensures in
     filled-next _ _ _ _ _ _ _ _ _ _ _ _ _ _ _ _ (c .before .before .before .before .before .before .before .before .before .before .loop-test .taken) (c .before .before .before .before .before .before .before .before .before .before .before .loop .inv) (e .0) (e .1 .0) (e .1 .1 .0) (e .1 .1 .1)
 
--- src/lib.rt:45:1
 same-length : tie.Need-same-length Inv-loop μ-loop
 same-length c = c .before .loop .inv .tails .size
 
--- src/lib.rt:45:1
 same-length-2 : tie.Need-same-length-2 Inv-loop μ-loop
 same-length-2 c = c .before .loop .inv .heads .size
 
--- src/lib.rt:45:1
 same-length-3 : tie.Need-same-length-3 Inv-loop μ-loop
 same-length-3 c = c .before .loop .inv .costs .size
 
--- src/lib.rt:45:1
 returns : tie.Need-returns Inv-loop μ-loop
 returns c =
     let a = c .before .before .before .before .before .before .before in

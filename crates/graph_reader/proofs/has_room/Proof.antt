@@ -5,15 +5,12 @@ use Rattle.graph_reader.proofs.has_room.Tie as tie
 use Rattle.graph_reader.proofs.has_room.Reads as reads
 use Rattle.graph_reader.proofs.has_room.Lts as lts
 
--- src/lib.rt:24:9
 returns : tie.Need-returns
 returns c = simp (lt-leb _ _ (c .if1 .taken))
 
--- src/lib.rt:27:9
 returns-2 : tie.Need-returns-2
 returns-2 c = simp (le-leb _ _ (c .before .if1 .left), lt-leb _ _ (c .if2 .taken))
 
--- src/lib.rt:19:1
 returns-3 : tie.Need-returns-3
 returns-3 c = simp (le-leb _ _ (c .before .if1 .left), le-leb _ _ (c .if2 .left))
 

@@ -16,76 +16,61 @@ use Rattle.cursor.proofs.check.header_refusal.Reads as header-refusal-reads
 use Rattle.graph_reader.proofs.fill.Reads as fill-reads
 use Rattle.graph_reader.proofs.has_room.Reads as has-room-reads
 
--- src/lib.rt:77:9
 header-requires : tie.Need-header-requires
 header-requires c κs = search needs
 
--- src/lib.rt:78:24
 enum-known-counts : tie.Need-enum-known-counts
 enum-known-counts c = search needs
 
--- src/lib.rt:79:9
 enum-told : tie.Need-enum-told
 enum-told c = search needs
 
--- src/lib.rt:79:9
 header-refusal-requires : tie.Need-header-refusal-requires
 header-refusal-requires c κs = search needs
 
--- src/lib.rt:79:9
 returns : tie.Need-returns
 returns c =
     let b = c .before .enum-told .given .1 in
     out-refused _ _ _ _ _ _ _ (check-header _ _ _ _ _ (c .header-refusal .ensures) b (c .before .before .before .header .ensures))
     (c .header-refusal .ensures ∙ ap planRefusal b)
 
--- src/lib.rt:81:9
 check-edges-requires : tie.Need-check-edges-requires
 check-edges-requires c κs = search needs
 
 enum-told-2 : tie.Need-enum-told-2
 enum-told-2 c = search needs
 
--- src/lib.rt:83:9
 enum-told-3 : tie.Need-enum-told-3
 enum-told-3 c = search needs
 
--- src/lib.rt:83:9
 returns-2 : tie.Need-returns-2
 returns-2 c =
     out-refused _ _ _ _ _ _ _
     (check-rest _ _ _ _ _ _ (c .before .before .check-edges .ensures) (c .before .before .before .before .counts .given .1) (c .before .before .before .before .before .before .header .ensures)) (c .enum-told3 .given .1)
 
--- src/lib.rt:85:9
 has-room-requires : tie.Need-has-room-requires
 has-room-requires c κs = search needs
 
--- src/lib.rt:86:9
 returns-3 : tie.Need-returns-3
 returns-3 c =
     out-short _ _ _ _ _ _ _ _ _ _ (c .before .before .before .before .before .before .counts .given .1) (c .before .before .before .before .before .before .before .before .header .ensures) _ (c .before .before .before .before .check-edges .ensures) (c .before .before .enum-told2 .given .1)
     (sym (c .before .has-room .ensures) ∙ not-true (c .before .has-room .result) (c .if1 .taken))
 
--- src/lib.rt:88:5
 fill-requires : tie.Need-fill-requires
 fill-requires c κs = (
   checked-sizes _ _ _ _ _ _ (sym (c .before .before .before .before .before .before .before .check-edges .ensures) ∙ c .before .before .before .before .before .enum-told2 .given .1),
   room-each _ _ _ _ (sym (c .before .before .before .before .has-room .ensures) ∙ not-false (c .before .before .before .before .has-room .result) (c .before .before .before .if1 .left)),
 )
 
--- src/lib.rt:71:1
 same-length : tie.Need-same-length
 same-length c = search needs
 
--- src/lib.rt:71:1
 same-length-2 : tie.Need-same-length-2
 same-length-2 c = search needs
 
--- src/lib.rt:71:1
 same-length-3 : tie.Need-same-length-3
 same-length-3 c = search needs
 
--- src/lib.rt:71:1
 returns-4 : tie.Need-returns-4
 returns-4 c =
     let e = c .before .before .before .before .before .before .fill .ensures in

@@ -10,62 +10,48 @@ use Rattle.graph_reader.proofs.store.Reads as reads
 use Rattle.graph_reader.proofs.store.Lts as lts
 use Rattle.cursor.proofs.step_checked.Reads as step-checked-reads
 
--- src/lib.rt:35:38
 step-checked-requires : tie.Need-step-checked-requires
 step-checked-requires c κs = c .before .before .before .before .pre .1 .1 .1
 
--- src/lib.rt:35:24
 enum-known-edge : tie.Need-enum-known-edge
 enum-known-edge c = search needs
 
--- src/lib.rt:36:9
 enum-told : tie.Need-enum-told
 enum-told c = search needs
 
--- src/lib.rt:36:9
 returns : tie.Need-returns
 returns c =
     let q = sym (c .before .before .step-checked .ensures) ∙ c .enum-told .given .1 in
     let a = c .before .before .before .before .before .before .before .args in
     (cursor-kept (a .cursor) tailOf (a .i) [] _ _ _ q, (list-kept (a .cursor) tailOf (a .i) _ _ _ _ q, (list-kept (a .cursor) headOf (a .i) _ _ _ _ q, list-kept (a .cursor) costOf (a .i) _ _ _ _ q)))
 
--- src/lib.rt:38:5
 mul-tails : tie.Need-mul-tails
 mul-tails c = search needs
 
--- src/lib.rt:38:5
 slice-write-tails : tie.Need-slice-write-tails
 slice-write-tails c = search needs
 
--- src/lib.rt:39:5
 mul-heads : tie.Need-mul-heads
 mul-heads c = search needs
 
--- src/lib.rt:39:5
 slice-write-heads : tie.Need-slice-write-heads
 slice-write-heads c = search needs
 
--- src/lib.rt:40:5
 mul-costs : tie.Need-mul-costs
 mul-costs c = search needs
 
--- src/lib.rt:40:5
 slice-write-costs : tie.Need-slice-write-costs
 slice-write-costs c = search needs
 
--- src/lib.rt:26:1
 same-length : tie.Need-same-length
 same-length c = search needs
 
--- src/lib.rt:26:1
 same-length-2 : tie.Need-same-length-2
 same-length-2 c = search needs
 
--- src/lib.rt:26:1
 same-length-3 : tie.Need-same-length-3
 same-length-3 c = search needs
 
--- src/lib.rt:26:1
 returns-2 : tie.Need-returns-2
 returns-2 c =
     let q = sym (c .before .before .before .step-checked .ensures) ∙ c .before .edge .given .1 in

@@ -9,31 +9,24 @@ use Rattle.cursor.proofs.check.check_edges.Reads as check-edges-reads
 use Rattle.cursor.proofs.check.header.Reads as header-reads
 use Rattle.cursor.proofs.check.header_refusal.Reads as header-refusal-reads
 
--- src/check.rt:84:9
 header-requires : tie.Need-header-requires
 header-requires c κs = search needs
 
--- src/check.rt:85:24
 enum-known-counts : tie.Need-enum-known-counts
 enum-known-counts c = search needs
 
--- src/check.rt:86:9
 enum-told : tie.Need-enum-told
 enum-told c = search needs
 
--- src/check.rt:86:9
 header-refusal-requires : tie.Need-header-refusal-requires
 header-refusal-requires c κs = search needs
 
--- src/check.rt:86:9
 returns : tie.Need-returns
 returns c = check-header _ _ _ _ _ (c .header-refusal .ensures) (c .before .enum-told .given .1) (c .before .before .before .header .ensures)
 
--- src/check.rt:88:5
 check-edges-requires : tie.Need-check-edges-requires
 check-edges-requires c κs = search needs
 
--- src/check.rt:81:1
 returns-2 : tie.Need-returns-2
 returns-2 c = check-rest _ _ _ _ _ _ (c .check-edges .ensures) (c .before .before .counts .given .1) (c .before .before .before .before .header .ensures)
 

@@ -18,55 +18,43 @@ Inv-loop bytes vertices edges at cursor₀ left₀ cursor left = Told vertices e
 abbrev μ-loop : tie.MeasureT-loop
 μ-loop bytes vertices edges at cursor₀ left₀ cursor left = left
 
--- src/check.rt:52:9
 first-requires : tie.Need-first-requires Inv-loop μ-loop
 first-requires c κs = search needs
 
--- src/check.rt:54:5
 loop-holds : tie.Need-loop-holds Inv-loop μ-loop
 loop-holds c = rw (c .first .ensures) (told-first _ _ _ _)
 
--- src/check.rt:55:13
 step-requires : tie.Need-step-requires Inv-loop μ-loop
 step-requires c κs = search needs
 
--- src/check.rt:56:31
 enum-known-read : tie.Need-enum-known-read Inv-loop μ-loop
 enum-known-read c = search needs
 
--- src/check.rt:57:13
 enum-told : tie.Need-enum-told Inv-loop μ-loop
 enum-told c = search needs
 
--- src/check.rt:57:13
 edge-fault-requires : tie.Need-edge-fault-requires Inv-loop μ-loop
 edge-fault-requires c κs = search needs
 
--- src/check.rt:57:13
 returns : tie.Need-returns Inv-loop μ-loop
 returns c =
     told-fault _ _ _ _ _ _ (c .before .before .before .before .loop-test .taken) (c .before .before .before .before .before .loop .inv) _ _ _ _ (c .edge-fault .ensures) (c .before .enum-told .given .1)
     (c .before .before .before .step .ensures)
 
--- src/check.rt:60:9
 sub-left : tie.Need-sub-left Inv-loop μ-loop
 sub-left c = omega arith
 
--- src/check.rt:54:5
 loop-less : tie.Need-loop-less Inv-loop μ-loop
 loop-less c = omega arith
 
--- src/check.rt:54:5
 loop-again : tie.Need-loop-again Inv-loop μ-loop
 loop-again c =
     told-next _ _ _ _ _ _ (c .before .before .before .before .loop-test .taken) (c .before .before .before .before .before .loop .inv) _ _
     (sym (c .before .before .before .step .ensures) ∙ c .before .read .given .1)
 
--- src/check.rt:49:1
 returns-2 : tie.Need-returns-2 Inv-loop μ-loop
 returns-2 c = told-over _ _ _ _ _ (c .before .before .loop .cursor) (omega (arith, c .before .loop-test)) (c .before .before .loop .inv) (c .if1 .taken)
 
--- src/check.rt:49:1
 returns-3 : tie.Need-returns-3 Inv-loop μ-loop
 returns-3 c = told-end _ _ _ _ _ (c .before .before .loop .cursor) (omega (arith, c .before .loop-test)) (c .before .before .loop .inv) (c .if1 .left)
 

@@ -7,19 +7,15 @@ use Rattle.cursor.proofs.check.edge_fault.Tie as tie
 use Rattle.cursor.proofs.check.edge_fault.Reads as reads
 use Rattle.cursor.proofs.check.edge_fault.Lts as lts
 
--- src/check.rt:43:33
 enum-told : tie.Need-enum-told
 enum-told c = search needs
 
--- src/check.rt:44:25
 enum-known-read : tie.Need-enum-known-read
 enum-known-read c = search needs
 
--- src/check.rt:39:1
 returns : tie.Need-returns
 returns c = search needs
 
--- src/check.rt:39:1
 returns-2 : tie.Need-returns-2
 returns-2 c = sym (ap edgeRefusal (c .before .read .given .1))
 

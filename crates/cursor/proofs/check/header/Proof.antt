@@ -10,50 +10,39 @@ use Rattle.cursor.proofs.check.header_fault.Reads as header-fault-reads
 use Rattle.cursor.proofs.number.take_edge_count.Reads as take-edge-count-reads
 use Rattle.cursor.proofs.number.take_vertex_count.Reads as take-vertex-count-reads
 
--- src/check.rt:27:9
 take-vertex-count-requires : tie.Need-take-vertex-count-requires
 take-vertex-count-requires c κs = search needs
 
--- src/check.rt:28:23
 enum-known-vertices-read : tie.Need-enum-known-vertices-read
 enum-known-vertices-read c = search needs
 
--- src/check.rt:29:9
 enum-told : tie.Need-enum-told
 enum-told c = search needs
 
--- src/check.rt:29:9
 header-fault-requires : tie.Need-header-fault-requires
 header-fault-requires c κs = search needs
 
--- src/check.rt:29:9
 returns : tie.Need-returns
 returns c = header-vertices _ _ _ _ _ (c .header-fault .ensures) (c .before .enum-told .given .1) (c .before .before .before .take-vertex-count .ensures)
 
--- src/check.rt:31:9
 take-edge-count-requires : tie.Need-take-edge-count-requires
 take-edge-count-requires c κs = search needs
 
--- src/check.rt:32:23
 enum-known-edges-read : tie.Need-enum-known-edges-read
 enum-known-edges-read c = search needs
 
--- src/check.rt:33:9
 enum-told-2 : tie.Need-enum-told-2
 enum-told-2 c = search needs
 
--- src/check.rt:33:9
 header-fault-requires-2 : tie.Need-header-fault-requires-2
 header-fault-requires-2 c κs = search needs
 
--- src/check.rt:33:9
 returns-2 : tie.Need-returns-2
 returns-2 c =
     header-edges _ _ _ _ _ (c .header-fault2 .ensures) (c .before .enum-told2 .given .1) _ _
     (sym (c .before .before .before .before .before .before .before .take-vertex-count .ensures) ∙ c .before .before .before .before .before .vertices-read .given .1)
     (c .before .before .before .take-edge-count .ensures)
 
--- src/check.rt:24:1
 returns-3 : tie.Need-returns-3
 returns-3 c =
     header-counts _ _ _ _ _

@@ -7,19 +7,15 @@ use Rattle.cursor.proofs.check.header_fault.Tie as tie
 use Rattle.cursor.proofs.check.header_fault.Reads as reads
 use Rattle.cursor.proofs.check.header_fault.Lts as lts
 
--- src/check.rt:18:32
 enum-told : tie.Need-enum-told
 enum-told c = search needs
 
--- src/check.rt:19:20
 enum-known-taken : tie.Need-enum-known-taken
 enum-known-taken c = search needs
 
--- src/check.rt:14:1
 returns : tie.Need-returns
 returns c = search needs
 
--- src/check.rt:14:1
 returns-2 : tie.Need-returns-2
 returns-2 c = sym (ap headerRefusal (c .before .taken .given .1))
 

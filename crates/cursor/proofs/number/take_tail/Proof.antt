@@ -10,38 +10,30 @@ use Rattle.cursor.proofs.number.take_tail.Reads as reads
 use Rattle.cursor.proofs.number.take_tail.Lts as lts
 use Rattle.leb128_reader.proofs.read_plan_number.Reads as read-plan-number-reads
 
--- src/number.rt:40:47
 read-plan-number-requires : tie.Need-read-plan-number-requires
 read-plan-number-requires c κs = search needs
 
--- src/number.rt:40:27
 enum-known-difference : tie.Need-enum-known-difference
 enum-known-difference c = search needs
 
--- src/number.rt:41:9
 enum-told : tie.Need-enum-told
 enum-told c = search needs
 
--- src/number.rt:41:9
 returns : tie.Need-returns
 returns c = take-malformed _ _ _ _ (sym (c .before .before .read-plan-number .ensures) ∙ c .enum-told .given .1)
 
--- src/number.rt:43:29
 cast-sum : tie.Need-cast-sum
 cast-sum c = search needs
 
--- src/number.rt:43:15
 add-sum : tie.Need-add-sum
 add-sum c = search needs
 
--- src/number.rt:45:9
 returns-2 : tie.Need-returns-2
 unfolding through tailRows
 returns-2 c =
     let k = c .before .before in
     take-value _ _ _ _ _ _ (sym (k .before .before .read-plan-number .ensures) ∙ k .difference .given .1) (simp (le-leb _ _ (c .if1 .taken)))
 
--- src/number.rt:37:1
 returns-3 : tie.Need-returns-3
 unfolding through tailRows
 returns-3 c =
