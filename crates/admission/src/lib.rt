@@ -6,7 +6,6 @@ ghost use Rattle.admission.specs.Steps.{planVerdict};
 mod consistency;
 mod rows;
 
-use cursor::check;
 use graph::Cursor;
 use graph::Header;
 use graph::PlanRead;
@@ -47,11 +46,11 @@ pub fn fault(
 ) -> Verdict
     ensures { λ r. ⌜ Decided (now (bytes .entry)) start goal (now (anchor .entry)) (now (guides .entry)) «guide_count» (now (schedule .entry)) «route_len» «work_len» r ⌝ }
 {
-    let counts = check::header(bytes);
+    let counts = graph_check::header(bytes);
     let Header::Counts(vertices, edges, at) = counts else {
-        return plan_verdict(check::header_refusal(counts));
+        return plan_verdict(graph_check::header_refusal(counts));
     };
-    let checked = check::check_edges(bytes, vertices, edges, at);
+    let checked = graph_check::check_edges(bytes, vertices, edges, at);
     let PlanRead::Sizes(_, _) = checked else {
         return plan_verdict(checked);
     };

@@ -1,5 +1,4 @@
-// The cursor over a plan's edges, whose step gives the next edge or the refusal; and the check of plan bytes.
-pub mod check;
+// The cursor over a plan's edges, whose step gives the next edge or the refusal.
 mod number;
 
 ghost use mathlib.Core.Path.{_≡_};

@@ -86,7 +86,7 @@ pub extern "C" fn secondcoop_write_plan_number(
 pub extern "C" fn secondcoop_check_plan(bytes: &[u8], figures: &mut [u64; 4])
     ensures { λ r. ⌜ now (figures .exit) ≡ planFigures (sizes (decode (now (bytes .entry)))) ⌝ }
 {
-    *figures = of_plan(cursor::check::check(bytes));
+    *figures = of_plan(graph_check::check(bytes));
 }
 
 // A plan read into three lists.

@@ -10,7 +10,6 @@ ghost use Rattle.graph.specs.Plan.{firstAt, nextEdge, edgesFrom, sizes};
 ghost use Rattle.graph.specs.Lists.{tailOf, headOf, costOf, over, roomFor, edgesIn, readAnswer, listAfter};
 ghost use Rattle.cursor.specs.Steps.{Stepped, cursorPast};
 ghost use Rattle.graph_reader.specs.Steps.{storedAt};
-use cursor::check;
 use graph::Cursor;
 use graph::EdgeRead;
 use graph::Header;
@@ -92,11 +91,11 @@ pub fn read(bytes: &[u8], tails: &mut [u32], heads: &mut [u32], costs: &mut [u32
     ensures { λ r. ⌜ now (heads .exit) ≡ listAfter headOf (now (bytes .entry)) (now (heads .entry)) r ⌝ }
     ensures { λ r. ⌜ now (costs .exit) ≡ listAfter costOf (now (bytes .entry)) (now (costs .entry)) r ⌝ }
 {
-    let counts = check::header(bytes);
+    let counts = graph_check::header(bytes);
     let Header::Counts(vertices, edges, at) = counts else {
-        return check::header_refusal(counts);
+        return graph_check::header_refusal(counts);
     };
-    let checked = check::check_edges(bytes, vertices, edges, at);
+    let checked = graph_check::check_edges(bytes, vertices, edges, at);
     let PlanRead::Sizes(_, _) = checked else {
         return checked;
     };

@@ -4,7 +4,6 @@ mod header;
 
 ghost use mathlib.Core.Path.{_≡_};
 ghost use Rattle.job.specs.Reading.{jobRead, afterPlan, afterSizes};
-use cursor::check;
 use graph::PlanRead;
 use job_numbers::NumbersRead;
 
@@ -89,6 +88,6 @@ pub fn read(job: &[u8]) -> JobRead
     };
     let plan = front.plan;
     let end = front.end;
-    let checked = check::check(&job[plan..end]);
+    let checked = graph_check::check(&job[plan..end]);
     read_plan(job, front, checked)
 }

@@ -2,7 +2,6 @@
 ghost use mathlib.Core.Path.{_≡_};
 ghost use Rattle.planner.specs.Planning.{refusalOf, Admission, Answers};
 use admission::Verdict;
-use cursor::check;
 use graph::Header;
 use rounds::Query;
 use search::Answer;
@@ -37,7 +36,7 @@ pub fn answer(
     requires { ⌜ Admission z q (now bytes) (now anchor) (now guides) (now schedule) (now route) (now log) (now work) ⌝ }
     ensures { λ r. ⌜ Answers z q (now (bytes .entry)) (now (anchor .entry)) (now (guides .entry)) (now (schedule .entry)) budget (now (route .entry)) (now (log .entry)) (now (work .entry)) r (now (route .exit)) (now (log .exit)) (now (work .exit)) ⌝ }
 {
-    let Header::Counts(_, _, at) = check::header(bytes) else {
+    let Header::Counts(_, _, at) = graph_check::header(bytes) else {
         return Answer::Refused(0, 0);
     };
     let first = begin::begin(bytes, work, route, anchor, schedule, z, q, at);

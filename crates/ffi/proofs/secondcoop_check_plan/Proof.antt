@@ -7,7 +7,7 @@ use Rattle.ffi.proofs.secondcoop_check_plan.Tie as tie
 use Rattle.ffi.proofs.secondcoop_check_plan.Reads as reads
 use Rattle.ffi.proofs.secondcoop_check_plan.Lts as lts
 use Rattle.ffi.proofs.of_plan.Reads as of-plan-reads
-use Rattle.cursor.proofs.check.check.Reads as check-reads
+use Rattle.graph_check.proofs.check.Reads as check-reads
 
 -- src/lib.rt:72:24
 check-requires : tie.Need-check-requires

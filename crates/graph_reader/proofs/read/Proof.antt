@@ -10,9 +10,9 @@ use Rattle.graph_reader.proofs.read.Statement.{statement}
 use Rattle.graph_reader.proofs.read.Tie as tie
 use Rattle.graph_reader.proofs.read.Reads as reads
 use Rattle.graph_reader.proofs.read.Lts as lts
-use Rattle.cursor.proofs.check.check_edges.Reads as check-edges-reads
-use Rattle.cursor.proofs.check.header.Reads as header-reads
-use Rattle.cursor.proofs.check.header_refusal.Reads as header-refusal-reads
+use Rattle.graph_check.proofs.check_edges.Reads as check-edges-reads
+use Rattle.graph_check.proofs.header.Reads as header-reads
+use Rattle.graph_check.proofs.header_refusal.Reads as header-refusal-reads
 use Rattle.graph_reader.proofs.fill.Reads as fill-reads
 use Rattle.graph_reader.proofs.has_room.Reads as has-room-reads
 

@@ -3,14 +3,14 @@ use Prim.Native.Nat.{ℕ}
 use mathlib.Core.Path.{sym, _∙_}
 use native.Mathlib.Omega.{arith}
 use borrow.Author.Needs.{needs}
 use Rattle.cursor.proofs.Reading.{Told, told-first, told-next, told-fault, told-over, told-end}
-use Rattle.cursor.proofs.check.check_edges.Statement.{statement}
-use Rattle.cursor.proofs.check.check_edges.Tie as tie
-use Rattle.cursor.proofs.check.check_edges.Reads as reads
-use Rattle.cursor.proofs.check.check_edges.Lts as lts
+use Rattle.graph_check.proofs.check_edges.Statement.{statement}
+use Rattle.graph_check.proofs.check_edges.Tie as tie
+use Rattle.graph_check.proofs.check_edges.Reads as reads
+use Rattle.graph_check.proofs.check_edges.Lts as lts
 use Rattle.cursor.proofs.first.Reads as first-reads
 use Rattle.cursor.proofs.step.Reads as step-reads
-use Rattle.cursor.proofs.check.edge_fault.Reads as edge-fault-reads
+use Rattle.graph_check.proofs.edge_fault.Reads as edge-fault-reads
 
 abbrev Inv-loop : tie.InvT-loop
 Inv-loop bytes vertices edges at cursor₀ left₀ cursor left = Told vertices edges bytes at left cursor

@@ -1,11 +1,11 @@
 -- `edge_fault` meets its contract. Assumes nothing.
 use mathlib.Core.Path.{sym, ap}
 use Rattle.cursor.specs.Steps.{edgeRefusal}
 use borrow.Author.Needs.{needs}
-use Rattle.cursor.proofs.check.edge_fault.Statement.{statement}
-use Rattle.cursor.proofs.check.edge_fault.Tie as tie
-use Rattle.cursor.proofs.check.edge_fault.Reads as reads
-use Rattle.cursor.proofs.check.edge_fault.Lts as lts
+use Rattle.graph_check.proofs.edge_fault.Statement.{statement}
+use Rattle.graph_check.proofs.edge_fault.Tie as tie
+use Rattle.graph_check.proofs.edge_fault.Reads as reads
+use Rattle.graph_check.proofs.edge_fault.Lts as lts
 
 enum-told : tie.Need-enum-told
 enum-told c = search needs

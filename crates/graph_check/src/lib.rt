@@ -1,13 +1,43 @@
 // A whole plan checked: V and M, or the refusal; nothing is written.
 ghost use mathlib.Core.Path.{_≡_};
+ghost use Rattle.graph.specs.Rows.{take, vertexCountRows, edgeCountRows};
 ghost use Rattle.graph.specs.Plan.{firstAt, edgesFrom, decode, sizes};
 ghost use Rattle.graph.specs.Plan as plan;
 ghost use Rattle.cursor.specs.Steps.{headerRefusal, planRefusal, edgeRefusal};
-use crate::number;
 use graph::EdgeRead;
 use graph::Header;
 use graph::PlanRead;
 use graph::Taken;
+use leb128::NumberRead;
+
+// V, at the front: refusals 1 and 2.
+fn take_vertex_count(bytes: &[u8]) -> Taken
+    ensures { λ r. ⌜ r ≡ take (now (bytes .entry)) 0 vertexCountRows ⌝ }
+{
+    let NumberRead::Value(count, next) = leb128_reader::read_plan_number(bytes, 0) else {
+        return Taken::Bad(1, 0);
+    };
+    if count == 0 {
+        return Taken::Bad(2, 0);
+    }
+    if graph::MAX_VERTICES < count {
+        return Taken::Bad(2, 0);
+    }
+    Taken::Number(count, next)
+}
+
+// M: refusals 1 and 3.
+fn take_edge_count(bytes: &[u8], at: usize) -> Taken
+    ensures { λ r. ⌜ r ≡ take (now (bytes .entry)) at edgeCountRows ⌝ }
+{
+    let NumberRead::Value(count, next) = leb128_reader::read_plan_number(bytes, at) else {
+        return Taken::Bad(1, at);
+    };
+    if graph::MAX_EDGES < count {
+        return Taken::Bad(3, at);
+    }
+    Taken::Number(count, next)
+}
 
 // The refusal of a number of the header that was not taken.
 fn header_fault(taken: Taken) -> Header
@@ -23,11 +53,11 @@ fn header_fault(taken: Taken) -> Header
 pub fn header(bytes: &[u8]) -> Header
     ensures { λ r. ⌜ r ≡ plan.header (now (bytes .entry)) ⌝ }
 {
-    let vertices_read = number::take_vertex_count(bytes);
+    let vertices_read = take_vertex_count(bytes);
     let Taken::Number(vertices, count_at) = vertices_read else {
         return header_fault(vertices_read);
     };
-    let edges_read = number::take_edge_count(bytes, count_at);
+    let edges_read = take_edge_count(bytes, count_at);
     let Taken::Number(edges, at) = edges_read else {
         return header_fault(edges_read);
     };
@@ -48,10 +78,10 @@ fn edge_fault(read: EdgeRead) -> PlanRead
 pub fn check_edges(bytes: &[u8], vertices: u32, edges: u32, at: usize) -> PlanRead
     ensures { λ r. ⌜ r ≡ sizes (edgesFrom vertices edges (now (bytes .entry)) (firstAt at)) ⌝ }
 {
-    let mut cursor = crate::first(at);
+    let mut cursor = cursor::first(at);
     let mut left = edges;
     while 0 < left {
-        let read = crate::step(cursor, bytes, vertices);
+        let read = cursor::step(cursor, bytes, vertices);
         let EdgeRead::Next(_, next) = read else {
             return edge_fault(read);
         };
