@@ -31,7 +31,7 @@ use Rattle.admission.proofs.Admits.{Admits, admits, refuses}
 use Rattle.rounds.specs.declared.Query.{Query}
 use Rattle.rounds.specs.declared.Standing.{Standing}
 use Rattle.rounds.specs.Carried.{Asking, Stands}
-use Rattle.stages.specs.Reached.{Given, Reaches, Running, Runs}
+use Rattle.running.specs.Reached.{Given, Reaches, Running, Runs}
 use Rattle.stages.specs.Begun.{Called, Beginning, Begins}
 use Rattle.stages.specs.Finished.{AtEnd, Finishing, Finishes}
 use Rattle.planner.specs.Planning.{refusalOf, Lent, Admission, Answers}

@@ -12,7 +12,7 @@ use Rattle.admission.specs.declared.Verdict.the-variants.{Admitted, Refused}
 use Rattle.workspace.specs.declared.Size.{Size}
 use Rattle.rounds.specs.declared.Query.{Query}
 use Rattle.rounds.specs.Carried.{Asking}
-use Rattle.stages.specs.Reached.{Given}
+use Rattle.running.specs.Reached.{Given}
 
 -- the answer to a call that is refused; 0 at 0 stands where it is not
 abbrev pub refusalOf : Verdict → Answer

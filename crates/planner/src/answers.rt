@@ -7,7 +7,6 @@ use rounds::Query;
 use search::Answer;
 use stages::begin;
 use stages::finish;
-use stages::turns;
 use workspace::Size;
 
 // The answer to a call that is refused; number 0 stands for none.
@@ -40,7 +39,7 @@ pub fn answer(
         return Answer::Refused(0, 0);
     };
     let first = begin::begin(bytes, work, route, anchor, schedule, z, q, at);
-    let last = turns::run(
+    let last = running::run(
         work,
         route,
         log,

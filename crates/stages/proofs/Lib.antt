@@ -1,5 +1,2 @@
-pub mod Logging
-pub mod Turning
-pub mod Rerun
 pub mod Beginning
 pub mod Finishing

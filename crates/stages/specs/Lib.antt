@@ -1,4 +1,2 @@
-pub mod Reached
-pub mod Going
 pub mod Begun
 pub mod Finished

@@ -1,4 +1,3 @@
-// The stages of a search that is not refused: it begins, makes its turns up to a budget, and ends with an answer.
+// The first and the last stage of a search that is not refused: it begins, and it ends with an answer.
 pub mod begin;
 pub mod finish;
-pub mod turns;

@@ -1,16 +1,16 @@
-// Turns over lent memory: a turn with step 1 after it, and turns up to a budget.
+// Turns over lent memory: one after another, until the search ends or the allowance is spent.
 ghost use mathlib.Core.Path.{_≡_};
 ghost use mathlib.Core.Bool.{_&&_};
 ghost use lib.Dec.{ltb};
-ghost use Rattle.stages.specs.Reached.{Advancing, Advances, Running, Runs};
-ghost use Rattle.stages.specs.Going.{isDue};
+ghost use Rattle.running.specs.Reached.{Advancing, Advances, Running, Runs};
+ghost use Rattle.running.specs.Going.{isDue};
 use rounds::Query;
 use rounds::Standing;
 use search::Step;
 use workspace::Size;
 
 // Where a turn is due, that turn, and step 1 after it.
-pub fn advance(
+fn advance(
     work: &mut [u32],
     route: &mut [u32],
     log: &mut [u32],

@@ -30,10 +30,10 @@ use Rattle.turn.proofs.Keys.{candidate-sheet}
 use Rattle.rounds.specs.declared.Query.{Query}
 use Rattle.rounds.specs.declared.Standing.{Standing}
 use Rattle.rounds.specs.Carried.{Asking, Carries, Stands, Settling, Settles}
-use Rattle.stages.specs.Reached.{Given, Reaches, Advancing, Advances}
+use Rattle.running.specs.Reached.{Given, Reaches, Advancing, Advances}
 use Rattle.rounds.proofs.Jobs.{next-few, job-heuristics, job-factors, job-guides, job-schedule}
 use Rattle.rounds.proofs.Asked.{small, few, sheets-long, in-range}
-use Rattle.stages.proofs.Logging.{log-more}
+use Rattle.running.proofs.Logging.{log-more}
 
 -- a turn that is due
 module _ (c : Call) (z : Size) (q : Query) (y : Stand) (ts : List Moment) (s : Standing) (anchor guides′ schedule work route log : List ℕ)

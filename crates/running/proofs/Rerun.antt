@@ -18,8 +18,8 @@ use Rattle.workspace.specs.declared.Size.{Size}
 use Rattle.rounds.specs.declared.Query.{Query}
 use Rattle.rounds.specs.declared.Standing.{Standing}
 use Rattle.rounds.specs.Carried.{Asking}
-use Rattle.stages.specs.Reached.{Given, Reaches, Advancing, Advances, Running, Runs}
-use Rattle.stages.specs.Going.{isDue}
+use Rattle.running.specs.Reached.{Given, Reaches, Advancing, Advances, Running, Runs}
+use Rattle.running.specs.Going.{isDue}
 
 -- ---- one turn more, at the end
 

@@ -4,13 +4,13 @@ use native.Mathlib.Omega.{arith}
 use mathlib.Core.Path.{_≡_, refl, _∙_}
 use lib.ListN.{length}
 use borrow.Author.Needs.{needs}
-use Rattle.stages.proofs.Rerun.{Ran, ran-none, ran-going, ran-stopped, left-some, advancing, ran-more, ran-all}
-use Rattle.stages.proofs.turns.run.Statement.{statement}
-use Rattle.stages.proofs.turns.run.Tie as tie
-use Rattle.stages.proofs.turns.run.Reads as reads
-use Rattle.stages.proofs.turns.run.Lts as lts
-use Rattle.stages.proofs.turns.advance.Reads as advance-reads
-use Rattle.stages.proofs.turns.goes_on.Reads as goes-on-reads
+use Rattle.running.proofs.Rerun.{Ran, ran-none, ran-going, ran-stopped, left-some, advancing, ran-more, ran-all}
+use Rattle.running.proofs.run.Statement.{statement}
+use Rattle.running.proofs.run.Tie as tie
+use Rattle.running.proofs.run.Reads as reads
+use Rattle.running.proofs.run.Lts as lts
+use Rattle.running.proofs.advance.Reads as advance-reads
+use Rattle.running.proofs.goes_on.Reads as goes-on-reads
 
 abbrev Inv-loop : tie.InvT-loop
 Inv-loop work₀ route₀ log₀ anchor guides schedule z q budget stand₀ left₀ going₀ work route log stand left going =
@@ -21,33 +21,33 @@ abbrev μ-loop : tie.MeasureT-loop
 μ-loop work₀ route₀ log₀ anchor guides schedule z q budget stand₀ left₀ going₀ work route log stand left going =
     left
 
--- src/turns.rt:73:9
+-- src/lib.rt:73:9
 goes-on-requires : tie.Need-goes-on-requires Inv-loop μ-loop
 goes-on-requires c κs = search needs
 
--- src/turns.rt:74:5
+-- src/lib.rt:74:5
 loop-holds : tie.Need-loop-holds Inv-loop μ-loop
 loop-holds c = (ran-none _ _ _ _ _ _ _ _ _ _ _ (c .goes-on .ensures), refl, refl, refl)
 
--- src/turns.rt:75:9
+-- src/lib.rt:75:9
 advance-requires : tie.Need-advance-requires Inv-loop μ-loop
 advance-requires c κs =
     advancing _ _ _ _ _ _ _ _ _ _ _ _ _ _ _ (ran-going (c .before .before .before .loop-test .taken) (c .before .before .before .before .loop .inv .0)) (c .before .before .before .before .before .before .before .before .before .before .before .before .pre) (omega (arith, c .before .before .before .before .before .before .before .before .before .before .before .before))
 
--- src/turns.rt:76:9
+-- src/lib.rt:76:9
 sub-left : tie.Need-sub-left Inv-loop μ-loop
 sub-left c = left-some _ _ _ _ _ _ _ _ _ _ _ _ _ _ _ (ran-going (c .before .before .before .before .before .before .before .before .before .before .loop-test .taken) (c .before .before .before .before .before .before .before .before .before .before .before .loop .inv .0))
 
--- src/turns.rt:77:9
+-- src/lib.rt:77:9
 goes-on-requires-2 : tie.Need-goes-on-requires-2 Inv-loop μ-loop
 goes-on-requires-2 c κs = search needs
 
--- src/turns.rt:74:5
+-- src/lib.rt:74:5
 loop-less : tie.Need-loop-less Inv-loop μ-loop
 loop-less c =
     omega (arith, left-some _ _ _ _ _ _ _ _ _ _ _ _ _ _ _ (ran-going (c .before .before .before .before .before .before .before .before .before .before .before .loop-test .taken) (c .before .before .before .before .before .before .before .before .before .before .before .before .loop .inv .0)))
 
--- src/turns.rt:74:5
+-- src/lib.rt:74:5
 loop-again : tie.Need-loop-again Inv-loop μ-loop
 loop-again c =
     let i = c .before .before .before .before .before .before .before .before .before .before .before .before .loop .inv in (
@@ -57,19 +57,19 @@ loop-again c =
       search needs,
     )
 
--- src/turns.rt:56:1
+-- src/lib.rt:56:1
 same-length : tie.Need-same-length Inv-loop μ-loop
 same-length c = c .before .loop .inv .1
 
--- src/turns.rt:56:1
+-- src/lib.rt:56:1
 same-length-2 : tie.Need-same-length-2 Inv-loop μ-loop
 same-length-2 c = c .before .loop .inv .2
 
--- src/turns.rt:56:1
+-- src/lib.rt:56:1
 same-length-3 : tie.Need-same-length-3 Inv-loop μ-loop
 same-length-3 c = c .before .loop .inv .3
 
--- src/turns.rt:56:1
+-- src/lib.rt:56:1
 returns : tie.Need-returns Inv-loop μ-loop
 returns c = ran-all _ _ _ _ _ _ _ _ _ _ _ _ _ _ _ (ran-stopped (c .loop-test .left) (c .before .loop .inv .0))
 

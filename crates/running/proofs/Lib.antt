@@ -1,0 +1,3 @@
+pub mod Logging
+pub mod Turning
+pub mod Rerun
