@@ -13,7 +13,7 @@ fn put_route(out: &mut [u8], summary: Summary, route: &[u32], log: &[u32]) -> us
     let length = summary.length;
     let at = lines::put_turn_lines(out, 0, log, turns as usize);
     let end = lines::put_route_line(out, at, route, length as usize);
-    lines::put_end_line(
+    end_lines::put_end_line(
         out,
         end,
         summary.cost,
@@ -29,7 +29,7 @@ fn put_no_route(out: &mut [u8], turns: u32, route: &[u32], log: &[u32]) -> usize
     ensures { λ r. ⌜ Shown (NoRoute turns) (now (route .entry)) (now (log .entry)) (now (out .entry)) r (now (out .exit)) ⌝ }
 {
     let at = lines::put_turn_lines(out, 0, log, turns as usize);
-    lines::put_no_route_line(out, at, turns as u64)
+    end_lines::put_no_route_line(out, at, turns as u64)
 }
 
 // Unfinished: the turn lines, and the line that says so.
@@ -38,14 +38,14 @@ fn put_unfinished(out: &mut [u8], turns: u32, route: &[u32], log: &[u32]) -> usi
     ensures { λ r. ⌜ Shown (Unfinished turns) (now (route .entry)) (now (log .entry)) (now (out .entry)) r (now (out .exit)) ⌝ }
 {
     let at = lines::put_turn_lines(out, 0, log, turns as usize);
-    lines::put_unfinished_line(out, at, turns as u64)
+    end_lines::put_unfinished_line(out, at, turns as u64)
 }
 
 // A refusal: only its line.
 pub fn put_refused(out: &mut [u8], number: u32, position: usize) -> usize
     ensures { λ r. ⌜ Refuses number position (now (out .entry)) r (now (out .exit)) ⌝ }
 {
-    lines::put_refused_line(out, 0, number as u64, position as u64)
+    end_lines::put_refused_line(out, 0, number as u64, position as u64)
 }
 
 // The answer's text, with route and log memory after the call.

@@ -10,7 +10,7 @@ use lib.Seq.{sets, sets-eq, length-sets, length-take-le, take-at, take-all}
 use Rattle.search.specs.declared.Answer.{Answer}
 use Rattle.search.specs.Call.{Call}
 use Rattle.search.specs.Outcome.{figures, answer, memoryAfter}
-use Rattle.job.specs.declared.Front.{Front}
+use Rattle.job_front.specs.declared.Front.{Front}
 use Rattle.job.specs.declared.JobRead.the-variants.{Accepted}
 use Rattle.job.specs.Reading.{jobRead, planOf, tableCount}
 use Rattle.job_numbers.specs.Numbers.{values}

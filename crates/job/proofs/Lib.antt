@@ -1,5 +1,4 @@
 -- The laws that other crates may cite, and job A's printed text.
-pub mod Following
 pub mod Accepted
 pub mod JobA
 pub mod Refusals

@@ -16,7 +16,7 @@ use Rattle.graph.specs.Plan.{Decoded, accepted, refused, decode, sizes}
 use Rattle.graph.specs.Lists.{Fault, none, fault}
 use Rattle.search.specs.Job.{house}
 use Rattle.search.specs.Call.{Call, inForce, row, first, endsRow, tablesRow, scheduleRow, memoryRow, goalRow, edgesRow, faultIn, faultOf}
-use Rattle.job.specs.declared.Front.{Front}
+use Rattle.job_front.specs.declared.Front.{Front}
 use Rattle.job.specs.declared.JobRead.the-variants.{Accepted}
 use Rattle.job.specs.Reading.{maxVertices, maxEdges, planOf, tableCount, jobRead}
 use Rattle.job.specs.Asked.{tablesOf, anchorOf, sheetsOf, routeSize, workSize, zeros, callWith, callOf}

@@ -4,7 +4,7 @@ use mathlib.Core.Path.{_≡_}
 use mathlib.Core.List.{List}
 use Rattle.graph.specs.Lists.{fault}
 use Rattle.search.specs.Call.{faultOf}
-use Rattle.job.specs.declared.Front.{Front}
+use Rattle.job_front.specs.declared.Front.{Front}
 use Rattle.job.specs.declared.JobRead.the-variants.{Accepted}
 use Rattle.job.specs.Reading.{jobRead}
 use Rattle.job.specs.Asked.{callOf}

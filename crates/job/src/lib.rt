@@ -1,42 +1,18 @@
 // Jobs of the bench program, as bytes: plan length, the plan, start, goal, allowance, rounds and factors,
 // guide count, anchor table, guide sheets.
-mod header;
-
 ghost use mathlib.Core.Path.{_≡_};
 ghost use Rattle.job.specs.Reading.{jobRead, afterPlan, afterSizes};
 use graph::PlanRead;
+use job_front::Front;
+use job_front::FrontRead;
 use job_numbers::NumbersRead;
 
-// The limits of a job: its bytes, vertices (places) and edges (lanes), rounds and guides.
+// The limits of a job: its bytes, vertices (places) and edges (lanes).
 pub const MAX_BYTES: usize = 32768;
 
 pub const MAX_VERTICES: u32 = 256;
 
 pub const MAX_EDGES: u32 = 2048;
-
-pub const MAX_ROUNDS: u32 = 16;
-
-pub const MAX_GUIDES: u32 = 8;
-
-// What stands before the tables: where the plan begins and ends, start, goal, budget (allowance), rounds,
-// where their factors begin, the guide count, and where the tables begin.
-pub struct Front {
-    pub plan: usize,
-    pub end: usize,
-    pub start: u32,
-    pub goal: u32,
-    pub budget: u32,
-    pub rounds: u32,
-    pub factors: usize,
-    pub guides: u32,
-    pub tables: usize,
-}
-
-// What stands before the tables; or refusal 14.
-pub enum FrontRead {
-    Whole(Front),
-    Broken,
-}
 
 // A job that may be asked, with V of its plan; or a refusal, number and position.
 pub enum JobRead {
@@ -83,7 +59,7 @@ pub fn read(job: &[u8]) -> JobRead
     if MAX_BYTES < job.len() {
         return JobRead::Refused(14, 0);
     }
-    let FrontRead::Whole(front) = header::read_front(job) else {
+    let FrontRead::Whole(front) = job_front::read_front(job) else {
         return JobRead::Refused(14, 0);
     };
     let plan = front.plan;

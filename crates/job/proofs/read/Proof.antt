@@ -2,7 +2,7 @@
 use mathlib.Core.Path.{sym, ap, _∙_}
 use borrow.Author.Tests.{lt-ltb, le-ltb}
 use Rattle.job.specs.Reading.{planOf, afterPlan, afterFront, jobRead}
-use Rattle.job.proofs.Following.{holds, fails}
+use Rattle.job_front.proofs.Following.{holds, fails}
 use Rattle.job.proofs.Accepted.{front-fits}
 use borrow.Author.Needs.{needs}
 use Rattle.job.proofs.read.Statement.{statement}

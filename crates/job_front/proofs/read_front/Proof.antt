@@ -4,11 +4,11 @@ use native.Mathlib.Omega.{arith}
 use borrow.Author.Tests.{lt-ltb, le-ltb}
 use Rattle.leb128.specs.Number.{jobGroups}
 use Rattle.leb128.proofs.Laws.{value-within}
-use Rattle.job.specs.Reading.{front}
-use Rattle.job.proofs.Following.{follows, follows-none, holds, fails}
+use Rattle.job_front.specs.Front.{front}
+use Rattle.job_front.proofs.Following.{follows, follows-none, holds, fails}
 use borrow.Author.Needs.{needs}
-use Rattle.job.proofs.header.read_front.Statement.{statement}
-use Rattle.job.proofs.header.read_front.Tie as tie
+use Rattle.job_front.proofs.read_front.Statement.{statement}
+use Rattle.job_front.proofs.read_front.Tie as tie
 
 read-job-number-requires : tie.Need-read-job-number-requires
 read-job-number-requires c κs = search needs

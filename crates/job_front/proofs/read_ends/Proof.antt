@@ -1,9 +1,9 @@
 -- `read_ends` meets its contract: start, goal and budget, one after another. Assumes nothing.
-use Rattle.job.specs.Reading.{ends}
-use Rattle.job.proofs.Following.{follows, follows-none}
+use Rattle.job_front.specs.Front.{ends}
+use Rattle.job_front.proofs.Following.{follows, follows-none}
 use borrow.Author.Needs.{needs}
-use Rattle.job.proofs.header.read_ends.Statement.{statement}
-use Rattle.job.proofs.header.read_ends.Tie as tie
+use Rattle.job_front.proofs.read_ends.Statement.{statement}
+use Rattle.job_front.proofs.read_ends.Tie as tie
 
 read-job-number-requires : tie.Need-read-job-number-requires
 read-job-number-requires c κs = search needs

@@ -1,0 +1,2 @@
+-- The laws that other crates may cite.
+pub mod Following
