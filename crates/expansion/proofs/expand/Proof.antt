@@ -10,32 +10,26 @@ use Rattle.vertices.proofs.marked.Reads as marked-reads
 use Rattle.workspace.proofs.layout.load.Reads as load-reads
 use Rattle.workspace.proofs.layout.store.Reads as store-reads
 
--- src/lib.rt:44:9
 load-requires : tie.Need-load-requires
 load-requires c κs = search needs
 
--- src/lib.rt:46:31
 marked-requires : tie.Need-marked-requires
 marked-requires c κs = search needs
 
--- src/lib.rt:46:5
 store-requires : tie.Need-store-requires
 store-requires c κs =
     let s = c .before .before .before .before .before in
     (s .pre .0, s .pre .1, rw (c .marked .ensures) (fits-marked _ _ (c .before .before .load .ensures .1)))
 
--- src/lib.rt:47:5
 relax-all-requires : tie.Need-relax-all-requires
 relax-all-requires c κs =
     let s = c .before .before .before .before .before .before .before .before .before in
     let f = rw (c .before .before .before .before .marked .ensures, c .before .before .before .before .before .before .load .ensures .0) at (c .before .before .before .store .ensures) in
     (marked-ready (s .args .z) (s .args .work .now) _ (s .args .i) (s .args .s) (s .pre .0) f, s .pre .1, c .before .before .before .before .before .before .load .ensures .1 .g)
 
--- src/lib.rt:40:1
 same-length : tie.Need-same-length
 same-length c = search needs
 
--- src/lib.rt:40:1
 returns : tie.Need-returns
 returns c =
     let s = c .before .before .before .before .before .before .before .before .before .before .before .before in

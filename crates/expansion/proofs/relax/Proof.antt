@@ -11,33 +11,26 @@ use Rattle.vertices.proofs.lowered.Reads as lowered-reads
 use Rattle.workspace.proofs.layout.load.Reads as load-reads
 use Rattle.workspace.proofs.layout.store.Reads as store-reads
 
--- src/lib.rt:18:9
 load-requires : tie.Need-load-requires
 load-requires c κs = search needs
 
--- src/lib.rt:19:18
 cast-c : tie.Need-cast-c
 cast-c c = search needs
 
--- src/lib.rt:19:13
 add-c : tie.Need-add-c
 add-c c = search needs
 
--- src/lib.rt:21:38
 lowered-requires : tie.Need-lowered-requires
 lowered-requires c κs = search needs
 
--- src/lib.rt:21:9
 store-requires : tie.Need-store-requires
 store-requires c κs =
     let s = c .before .before .before .before .before .before .before in
     (s .pre .0, s .pre .1, rw (c .lowered .ensures) (fits-lowered _ _ _ (c .before .before .before .before .load .ensures .1) (c .before .before .if1 .taken)))
 
--- src/lib.rt:12:1
 same-length : tie.Need-same-length
 same-length c = search needs
 
--- src/lib.rt:12:1
 returns : tie.Need-returns
 returns c =
     let a = c .before .before .before .before .before .before .before .before .before .before .args in
@@ -45,11 +38,9 @@ returns c =
     (ap (λ x. written (a .z) x (a .work .now))
     (relax-taken (a .s) (a .g) (a .e) (verticesOf (a .z) (a .work .now)) (rw (c .before .before .before .before .before .before .before .load .ensures .0) at (c .before .before .before .before .before .if1 .taken))))
 
--- src/lib.rt:12:1
 same-length-2 : tie.Need-same-length-2
 same-length-2 c = search needs
 
--- src/lib.rt:12:1
 returns-2 : tie.Need-returns-2
 returns-2 c =
     let s = c .before .before .before .before .before in

@@ -18,23 +18,18 @@ Inv-loop work₀ z s g j₀ end work j = Tried z s g j₀ end work₀ work j
 abbrev μ-loop : tie.MeasureT-loop
 μ-loop work₀ z s g j₀ end work j = end - j
 
--- src/lib.rt:30:9
 first-edge-requires : tie.Need-first-edge-requires Inv-loop μ-loop
 first-edge-requires c κs = (c .before .before .pre .0 .room, search needs)
 
--- src/lib.rt:31:43
 add-first-edge : tie.Need-add-first-edge Inv-loop μ-loop
 add-first-edge c = search needs
 
--- src/lib.rt:31:9
 first-edge-requires-2 : tie.Need-first-edge-requires-2 Inv-loop μ-loop
 first-edge-requires-2 c κs = (c .before .before .before .before .pre .0 .room, search needs)
 
--- src/lib.rt:32:5
 loop-holds : tie.Need-loop-holds Inv-loop μ-loop
 loop-holds c = tried-none _ _ _ _ _ _ (c .before .before .before .before .before .pre .0)
 
--- src/lib.rt:33:13
 edge-requires : tie.Need-edge-requires Inv-loop μ-loop
 edge-requires c κs =
     let a = c .before .before .before .before .before .before .before .before in
@@ -42,7 +37,6 @@ edge-requires c κs =
     let m : l .j < a .args .z .edges = omega (arith, a .pre .0 .ends (a .args .s) (a .pre .1), rw add-one at (c .before .before .before .first-edge2 .ensures)) in
     (tried-ready _ _ _ _ _ _ (a .pre .0) (l .work) (l .j) (l .inv) .room, m)
 
--- src/lib.rt:34:9
 relax-requires : tie.Need-relax-requires Inv-loop μ-loop
 relax-requires c κs =
     let a = c .before .before .before .before .before .before .before .before .before .before in
@@ -51,15 +45,12 @@ relax-requires c κs =
     let r = tried-ready _ _ _ _ _ _ (a .pre .0) (l .work) (l .j) (l .inv) in
     (r, rw (c .before .edge .ensures) (r .heads (a .args .s) (l .j) m), a .pre .2)
 
--- src/lib.rt:35:9
 add-j : tie.Need-add-j Inv-loop μ-loop
 add-j c = search needs
 
--- src/lib.rt:32:5
 loop-less : tie.Need-loop-less Inv-loop μ-loop
 loop-less c = search needs
 
--- src/lib.rt:32:5
 loop-again : tie.Need-loop-again Inv-loop μ-loop
 loop-again c =
     let a = c .before .before .before .before .before .before .before .before .before .before .before .before .before in
@@ -67,11 +58,9 @@ loop-again c =
     let m : l .j < a .args .z .edges = omega (arith, a .pre .0 .ends (a .args .s) (a .pre .1), rw add-one at (c .before .before .before .before .before .before .before .before .first-edge2 .ensures)) in
     tried-next _ _ _ _ _ _ (a .pre .0) (l .work) (l .j) (l .inv) _ _ (c .before .before .before .before .before .before .loop-test .taken) m (c .before .before .before .before .edge .ensures) (c .before .before .relax .ensures)
 
--- src/lib.rt:26:1
 same-length : tie.Need-same-length Inv-loop μ-loop
 same-length c = tried-length _ _ _ _ _ _ (c .before .before .before .before .before .before .before .pre .0) (c .before .loop .work) (c .before .loop .j) (c .before .loop .inv)
 
--- src/lib.rt:26:1
 returns : tie.Need-returns Inv-loop μ-loop
 returns c =
     let a = c .before .before .before .before .before .before .before in

@@ -7,23 +7,18 @@ use Rattle.ffi.proofs.of_count.Tie as tie
 use Rattle.ffi.proofs.of_count.Reads as reads
 use Rattle.ffi.proofs.of_count.Lts as lts
 
--- src/lib.rt:49:28
 enum-known-written : tie.Need-enum-known-written
 enum-known-written c = search needs
 
--- src/lib.rt:50:31
 enum-known-written-2 : tie.Need-enum-known-written-2
 enum-known-written-2 c = search needs
 
--- src/lib.rt:50:41
 cast-t7 : tie.Need-cast-t7
 cast-t7 c = search needs
 
--- src/lib.rt:45:1
 returns : tie.Need-returns
 returns c = sym (ap countFigures (c .before .written .given .1))
 
--- src/lib.rt:45:1
 returns-2 : tie.Need-returns-2
 returns-2 c = sym (ap countFigures (c .before .written2 .given .1))
 

@@ -7,31 +7,24 @@ use Rattle.ffi.proofs.of_plan.Tie as tie
 use Rattle.ffi.proofs.of_plan.Reads as reads
 use Rattle.ffi.proofs.of_plan.Lts as lts
 
--- src/lib.rt:37:25
 enum-known-read : tie.Need-enum-known-read
 enum-known-read c = search needs
 
--- src/lib.rt:37:52
 cast-t7 : tie.Need-cast-t7
 cast-t7 c = search needs
 
--- src/lib.rt:37:69
 cast-t8 : tie.Need-cast-t8
 cast-t8 c = search needs
 
--- src/lib.rt:38:27
 enum-known-read-2 : tie.Need-enum-known-read-2
 enum-known-read-2 c = search needs
 
--- src/lib.rt:38:37
 cast-t9 : tie.Need-cast-t9
 cast-t9 c = search needs
 
--- src/lib.rt:33:1
 returns : tie.Need-returns
 returns c = sym (ap planFigures (c .before .read .given .1))
 
--- src/lib.rt:33:1
 returns-2 : tie.Need-returns-2
 returns-2 c = sym (ap planFigures (c .before .read2 .given .1))
 

@@ -7,23 +7,18 @@ use Rattle.ffi.proofs.of_read.Tie as tie
 use Rattle.ffi.proofs.of_read.Reads as reads
 use Rattle.ffi.proofs.of_read.Lts as lts
 
--- src/lib.rt:16:27
 enum-known-read : tie.Need-enum-known-read
 enum-known-read c = search needs
 
--- src/lib.rt:16:50
 cast-t6 : tie.Need-cast-t6
 cast-t6 c = search needs
 
--- src/lib.rt:17:29
 enum-known-read-2 : tie.Need-enum-known-read-2
 enum-known-read-2 c = search needs
 
--- src/lib.rt:12:1
 returns : tie.Need-returns
 returns c = sym (ap readFigures (c .before .read .given .1))
 
--- src/lib.rt:12:1
 returns-2 : tie.Need-returns-2
 returns-2 c = sym (ap readFigures (c .before .read2 .given .1))
 

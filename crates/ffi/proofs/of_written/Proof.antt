@@ -7,27 +7,21 @@ use Rattle.ffi.proofs.of_written.Tie as tie
 use Rattle.ffi.proofs.of_written.Reads as reads
 use Rattle.ffi.proofs.of_written.Lts as lts
 
--- src/lib.rt:26:29
 enum-known-written : tie.Need-enum-known-written
 enum-known-written c = search needs
 
--- src/lib.rt:27:36
 enum-told : tie.Need-enum-told
 enum-told c = search needs
 
--- src/lib.rt:28:34
 enum-told-2 : tie.Need-enum-told-2
 enum-told-2 c = search needs
 
--- src/lib.rt:22:1
 returns : tie.Need-returns
 returns c = sym (ap writtenFigures (c .before .written .given .1))
 
--- src/lib.rt:22:1
 returns-2 : tie.Need-returns-2
 returns-2 c = search needs
 
--- src/lib.rt:22:1
 returns-3 : tie.Need-returns-3
 returns-3 c = search needs
 

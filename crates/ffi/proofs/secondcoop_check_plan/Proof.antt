@@ -9,15 +9,12 @@ use Rattle.ffi.proofs.secondcoop_check_plan.Lts as lts
 use Rattle.ffi.proofs.of_plan.Reads as of-plan-reads
 use Rattle.graph_check.proofs.check.Reads as check-reads
 
--- src/lib.rt:72:24
 check-requires : tie.Need-check-requires
 check-requires c κs = search needs
 
--- src/lib.rt:72:16
 of-plan-requires : tie.Need-of-plan-requires
 of-plan-requires c κs = search needs
 
--- src/lib.rt:68:1
 returns : tie.Need-returns
 returns c = c .of-plan .ensures ∙ ap planFigures (c .before .check .ensures)
 

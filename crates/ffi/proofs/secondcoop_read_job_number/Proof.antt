@@ -9,15 +9,12 @@ use Rattle.ffi.proofs.secondcoop_read_job_number.Lts as lts
 use Rattle.ffi.proofs.of_read.Reads as of-read-reads
 use Rattle.leb128_reader.proofs.read_job_number.Reads as read-job-number-reads
 
--- src/lib.rt:55:24
 read-job-number-requires : tie.Need-read-job-number-requires
 read-job-number-requires c κs = search needs
 
--- src/lib.rt:55:16
 of-read-requires : tie.Need-of-read-requires
 of-read-requires c κs = search needs
 
--- src/lib.rt:51:1
 returns : tie.Need-returns
 returns c = c .of-read .ensures ∙ ap readFigures (c .before .read-job-number .ensures)
 

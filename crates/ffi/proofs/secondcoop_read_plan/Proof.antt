@@ -10,27 +10,21 @@ use Rattle.ffi.proofs.secondcoop_read_plan.Lts as lts
 use Rattle.ffi.proofs.of_plan.Reads as of-plan-reads
 use Rattle.graph_reader.proofs.read.Reads as read-reads
 
--- src/lib.rt:89:24
 read-requires : tie.Need-read-requires
 read-requires c κs = search needs
 
--- src/lib.rt:89:16
 of-plan-requires : tie.Need-of-plan-requires
 of-plan-requires c κs = search needs
 
--- src/lib.rt:76:1
 same-length : tie.Need-same-length
 same-length c = search needs
 
--- src/lib.rt:76:1
 same-length-2 : tie.Need-same-length-2
 same-length-2 c = search needs
 
--- src/lib.rt:76:1
 same-length-3 : tie.Need-same-length-3
 same-length-3 c = search needs
 
--- src/lib.rt:76:1
 returns : tie.Need-returns
 returns c =
     let e = c .before .before .before .before .before .before .before .read .ensures in (

@@ -9,15 +9,12 @@ use Rattle.ffi.proofs.secondcoop_read_plan_number.Lts as lts
 use Rattle.ffi.proofs.of_read.Reads as of-read-reads
 use Rattle.leb128_reader.proofs.read_plan_number.Reads as read-plan-number-reads
 
--- src/lib.rt:47:24
 read-plan-number-requires : tie.Need-read-plan-number-requires
 read-plan-number-requires c κs = search needs
 
--- src/lib.rt:47:16
 of-read-requires : tie.Need-of-read-requires
 of-read-requires c κs = search needs
 
--- src/lib.rt:43:1
 returns : tie.Need-returns
 returns c = c .of-read .ensures ∙ ap readFigures (c .before .read-plan-number .ensures)
 

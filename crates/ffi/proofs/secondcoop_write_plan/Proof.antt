@@ -10,19 +10,15 @@ use Rattle.ffi.proofs.secondcoop_write_plan.Lts as lts
 use Rattle.ffi.proofs.of_count.Reads as of-count-reads
 use Rattle.graph_writer.proofs.write.Reads as write-reads
 
--- src/lib.rt:122:25
 write-requires : tie.Need-write-requires
 write-requires c κs = search needs
 
--- src/lib.rt:122:16
 of-count-requires : tie.Need-of-count-requires
 of-count-requires c κs = search needs
 
--- src/lib.rt:110:1
 same-length : tie.Need-same-length
 same-length c = search needs
 
--- src/lib.rt:110:1
 returns : tie.Need-returns
 returns c =
     let e = c .before .before .before .write .ensures in (c .of-count .ensures ∙ ap countFigures (e .0), e .1 ∙ ap (outAfter _ _ _ _ _) (e .0))

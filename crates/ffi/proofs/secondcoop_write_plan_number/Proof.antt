@@ -9,19 +9,15 @@ use Rattle.ffi.proofs.secondcoop_write_plan_number.Lts as lts
 use Rattle.ffi.proofs.of_written.Reads as of-written-reads
 use Rattle.leb128_writer.proofs.write_plan_number.Reads as write-plan-number-reads
 
--- src/lib.rt:64:27
 write-plan-number-requires : tie.Need-write-plan-number-requires
 write-plan-number-requires c κs = search needs
 
--- src/lib.rt:64:16
 of-written-requires : tie.Need-of-written-requires
 of-written-requires c κs = search needs
 
--- src/lib.rt:59:1
 same-length : tie.Need-same-length
 same-length c = search needs
 
--- src/lib.rt:59:1
 returns : tie.Need-returns
 returns c =
     let e = c .before .before .before .write-plan-number .ensures in (c .of-written .ensures ∙ ap writtenFigures (e .0), e .1)

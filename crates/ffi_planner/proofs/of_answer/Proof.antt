@@ -8,66 +8,51 @@ use Rattle.ffi_planner.proofs.of_answer.Tie as tie
 use Rattle.ffi_planner.proofs.of_answer.Reads as reads
 use Rattle.ffi_planner.proofs.of_answer.Lts as lts
 
--- src/lib.rt:133:23
 enum-known-answer : tie.Need-enum-known-answer
 enum-known-answer c = search needs
 
--- src/lib.rt:138:13
 cast-t8 : tie.Need-cast-t8
 cast-t8 c = search needs
 
--- src/lib.rt:139:13
 cast-t9 : tie.Need-cast-t9
 cast-t9 c = search needs
 
--- src/lib.rt:140:13
 cast-t10 : tie.Need-cast-t10
 cast-t10 c = search needs
 
--- src/lib.rt:141:13
 cast-t11 : tie.Need-cast-t11
 cast-t11 c = search needs
 
--- src/lib.rt:143:25
 enum-known-answer-2 : tie.Need-enum-known-answer-2
 enum-known-answer-2 c = search needs
 
--- src/lib.rt:143:54
 cast-t12 : tie.Need-cast-t12
 cast-t12 c = search needs
 
--- src/lib.rt:144:28
 enum-known-answer-3 : tie.Need-enum-known-answer-3
 enum-known-answer-3 c = search needs
 
--- src/lib.rt:144:57
 cast-t13 : tie.Need-cast-t13
 cast-t13 c = search needs
 
--- src/lib.rt:145:25
 enum-known-answer-4 : tie.Need-enum-known-answer-4
 enum-known-answer-4 c = search needs
 
--- src/lib.rt:145:38
 cast-t14 : tie.Need-cast-t14
 cast-t14 c = search needs
 
--- src/lib.rt:129:1
 returns : tie.Need-returns
 unfolding answerFigures eight figures endingNumber
 returns c = sym (ap answerFigures (c .before .before .before .before .before .answer .given .1))
 
--- src/lib.rt:129:1
 returns-2 : tie.Need-returns-2
 unfolding answerFigures eight figures endingNumber
 returns-2 c = sym (ap answerFigures (c .before .answer2 .given .1))
 
--- src/lib.rt:129:1
 returns-3 : tie.Need-returns-3
 unfolding answerFigures eight figures endingNumber
 returns-3 c = sym (ap answerFigures (c .before .answer3 .given .1))
 
--- src/lib.rt:129:1
 returns-4 : tie.Need-returns-4
 unfolding answerFigures eight figures endingNumber
 returns-4 c = sym (ap answerFigures (c .before .answer4 .given .1))

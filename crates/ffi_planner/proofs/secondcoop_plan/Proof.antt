@@ -8,27 +8,21 @@ use Rattle.ffi_planner.proofs.secondcoop_plan.Lts as lts
 use Rattle.ffi_planner.proofs.of_answer.Reads as of-answer-reads
 use Rattle.planner.proofs.plan.Reads as plan-reads
 
--- src/lib.rt:167:9
 plan-requires : tie.Need-plan-requires
 plan-requires c κs = search needs
 
--- src/lib.rt:180:16
 of-answer-requires : tie.Need-of-answer-requires
 of-answer-requires c κs = search needs
 
--- src/lib.rt:150:1
 same-length : tie.Need-same-length
 same-length c = search needs
 
--- src/lib.rt:150:1
 same-length-2 : tie.Need-same-length-2
 same-length-2 c = search needs
 
--- src/lib.rt:150:1
 same-length-3 : tie.Need-same-length-3
 same-length-3 c = search needs
 
--- src/lib.rt:150:1
 returns : tie.Need-returns
 returns c = exported _ _ _ _ _ _ (c .of-answer .ensures) (c .before .before .before .before .before .before .before .plan .ensures)
 

@@ -6,11 +6,9 @@ use Rattle.incumbent.proofs.improves.Tie as tie
 use Rattle.incumbent.proofs.improves.Reads as reads
 use Rattle.incumbent.proofs.improves.Lts as lts
 
--- src/lib.rt:26:9
 returns : tie.Need-returns
 returns c = first-improves _ _ (c .if1 .taken)
 
--- src/lib.rt:22:1
 returns-2 : tie.Need-returns-2
 returns-2 c = later-improves _ _ _ (c .before .if1 .left) refl
 

@@ -14,19 +14,15 @@ use Rattle.incumbent.proofs.improves.Reads as improves-reads
 use Rattle.incumbent.proofs.laying.lay.Reads as lay-reads
 use Rattle.tracing.proofs.preds.traced.Reads as traced-reads
 
--- src/lib.rt:38:9
 traced-requires : tie.Need-traced-requires
 traced-requires c κs = search needs
 
--- src/lib.rt:40:25
 enum-known-cost : tie.Need-enum-known-cost
 enum-known-cost c = search needs
 
--- src/lib.rt:41:9
 enum-told : tie.Need-enum-told
 enum-told c = search needs
 
--- src/lib.rt:41:9
 returns : tie.Need-returns
 returns c =
     let s = c .before .before .before .before .before .args in
@@ -34,21 +30,17 @@ returns c =
     let e = figures-cost (s .z) (s .work .now) (s .start) (s .goal) _ (c .before .before .traced .ensures) ∙ c .enum-told .given .1 in
     keeps-old (s .z .vertices) k (tracedIn (s .z) (s .work .now) (s .start) (s .goal)) (s .p) (s .route .now) (broken-not k (s .p) e)
 
--- src/lib.rt:43:8
 improves-requires : tie.Need-improves-requires
 improves-requires c κs = search needs
 
--- src/lib.rt:44:9
 lay-requires : tie.Need-lay-requires
 lay-requires c κs =
     let s = c .before .before .before .before .before .before .before .before .before in
     (s .pre .0 .room, s .pre .2, figures-length (s .args .z) (s .args .work .now) (s .args .start) (s .args .goal) _ (c .before .before .before .before .before .before .traced .ensures))
 
--- src/lib.rt:45:9
 same-length : tie.Need-same-length
 same-length c = search needs
 
--- src/lib.rt:45:9
 returns-2 : tie.Need-returns-2
 returns-2 c =
     let s = c .before .before .before .before .before .before .before .before .before .before .before .before .args in
@@ -56,7 +48,6 @@ returns-2 c =
     let e = figures-cost (s .z) (s .work .now) (s .start) (s .goal) _ (c .before .before .before .before .before .before .before .before .before .traced .ensures) ∙ c .before .before .before .before .before .before .before .cost .given .1 in
     keeps-new (s .z .vertices) k (tracedIn (s .z) (s .work .now) (s .start) (s .goal)) (s .p) (s .route .now) _ e (sym (c .before .before .before .before .before .improves .ensures) ∙ c .before .before .before .before .if1 .taken) _ (c .before .before .lay .ensures)
 
--- src/lib.rt:33:1
 returns-3 : tie.Need-returns-3
 returns-3 c =
     let s = c .before .before .before .before .before .before .before .before .args in

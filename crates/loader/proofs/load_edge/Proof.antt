@@ -12,41 +12,32 @@ use Rattle.loader.proofs.load_edge.Lts as lts
 use Rattle.cursor.proofs.step.Reads as step-reads
 use Rattle.loader.proofs.fill_first.Reads as fill-first-reads
 
--- src/lib.rt:36:38
 step-requires : tie.Need-step-requires
 step-requires c κs = search needs
 
--- src/lib.rt:36:24
 enum-known-edge : tie.Need-enum-known-edge
 enum-known-edge c = search needs
 
--- src/lib.rt:37:9
 enum-told : tie.Need-enum-told
 enum-told c = search needs
 
--- src/lib.rt:37:9
 returns : tie.Need-returns
 returns c =
     let s = c .before .before .before .before .before in
     loaded-none (s .args .z) (s .args .j) (s .args .work .now) (s .args .cursor) _ _ _ (sym (c .before .before .step .ensures) ∙ c .enum-told .given .1)
 
--- src/lib.rt:41:23
 cast-fill-first : tie.Need-cast-fill-first
 cast-fill-first c = search needs
 
--- src/lib.rt:41:22
 add-fill-first : tie.Need-add-fill-first
 add-fill-first c = search needs
 
--- src/lib.rt:41:46
 cast-fill-first-2 : tie.Need-cast-fill-first-2
 cast-fill-first-2 c = search needs
 
--- src/lib.rt:41:45
 add-fill-first-2 : tie.Need-add-fill-first-2
 add-fill-first-2 c = search needs
 
--- src/lib.rt:41:5
 fill-first-requires : tie.Need-fill-first-requires
 unfolding base
 fill-first-requires c κs =
@@ -54,61 +45,47 @@ fill-first-requires c κs =
     let q = sym (c .before .before .before .before .step .ensures) ∙ c .before .before .edge .given .1 in
     omega (arith, next-tail _ _ (s .args .cursor) _ _ q .vertex, s .pre .0)
 
--- src/lib.rt:42:14
 cast-h : tie.Need-cast-h
 cast-h c = search needs
 
--- src/lib.rt:42:13
 add-h : tie.Need-add-h
 add-h c = search needs
 
--- src/lib.rt:42:13
 add-h-2 : tie.Need-add-h-2
 add-h-2 c = search needs
 
--- src/lib.rt:43:14
 cast-c : tie.Need-cast-c
 cast-c c = search needs
 
--- src/lib.rt:43:13
 add-c : tie.Need-add-c
 add-c c = search needs
 
--- src/lib.rt:43:40
 cast-c-2 : tie.Need-cast-c-2
 cast-c-2 c = search needs
 
--- src/lib.rt:43:13
 add-c-2 : tie.Need-add-c-2
 add-c-2 c = search needs
 
--- src/lib.rt:43:13
 add-c-3 : tie.Need-add-c-3
 add-c-3 c = search needs
 
--- src/lib.rt:44:5
 mul-work : tie.Need-mul-work
 mul-work c = search needs
 
--- src/lib.rt:44:5
 slice-write-work : tie.Need-slice-write-work
 unfolding base
 slice-write-work c = omega (arith, c .before .before .fill-first .kept .0, c .before .before .before .before .before .before .before .before .before .before .pre .0)
 
--- src/lib.rt:45:5
 mul-work-2 : tie.Need-mul-work-2
 mul-work-2 c = search needs
 
--- src/lib.rt:45:5
 slice-write-work-2 : tie.Need-slice-write-work-2
 unfolding base
 slice-write-work-2 c = simp length-set (omega (arith, c .before .before .fill-first .kept .0, c .before .before .before .before .before .before .before .before .before .before .pre .0))
 
--- src/lib.rt:29:1
 same-length : tie.Need-same-length
 same-length c = search needs
 
--- src/lib.rt:29:1
 returns-2 : tie.Need-returns-2
 returns-2 c =
     let s = c .before .before .before .before .before .before .before .before .before .before in

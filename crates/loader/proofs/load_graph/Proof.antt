@@ -20,36 +20,29 @@ Inv-loop bytes work₀ z at vertices edges cursor₀ j₀ work cursor j = Loadin
 abbrev μ-loop : tie.MeasureT-loop
 μ-loop bytes work₀ z at vertices edges cursor₀ j₀ work cursor j = edges - j
 
--- src/lib.rt:57:5
 slice-write-work : tie.Need-slice-write-work Inv-loop μ-loop
 unfolding base
 slice-write-work c = omega (arith, c .before .before .pre .1)
 
--- src/lib.rt:58:9
 first-requires : tie.Need-first-requires Inv-loop μ-loop
 first-requires c κs = search needs
 
--- src/lib.rt:60:5
 loop-holds : tie.Need-loop-holds Inv-loop μ-loop
 loop-holds c =
     let s = c .before .before .before in
     loading-none (s .args .z) _ (s .args .at) _ _ (c .first .ensures) (s .pre .0)
 
--- src/lib.rt:61:9
 load-edge-requires : tie.Need-load-edge-requires Inv-loop μ-loop
 load-edge-requires c κs =
     let s = c .before .before .before .before .before .before in
     (omega (arith, simp length-set at (c .before .before .loop .inv .size), s .pre .1), c .before .loop-test .taken)
 
--- src/lib.rt:62:9
 add-j : tie.Need-add-j Inv-loop μ-loop
 add-j c = search needs
 
--- src/lib.rt:60:5
 loop-less : tie.Need-loop-less Inv-loop μ-loop
 loop-less c = search needs
 
--- src/lib.rt:60:5
 loop-again : tie.Need-loop-again Inv-loop μ-loop
 loop-again c =
     let s = c .before .before .before .before .before .before .before .before .before in
@@ -57,34 +50,27 @@ loop-again c =
     let e = c .before .before .load-edge .ensures in
     loading-next (s .args .z) _ (s .args .at) _ (l .work) (l .j) (l .cursor) (l .inv) _ _ (c .before .before .before .before .loop-test .taken) (e .0) (e .1)
 
--- src/lib.rt:65:23
 cast-fill-first : tie.Need-cast-fill-first Inv-loop μ-loop
 cast-fill-first c = omega (arith, c .before .before .loop .inv .tail)
 
--- src/lib.rt:65:22
 add-fill-first : tie.Need-add-fill-first Inv-loop μ-loop
 add-fill-first c = omega (arith, c .before .before .loop .inv .tail)
 
--- src/lib.rt:65:44
 cast-fill-first-2 : tie.Need-cast-fill-first-2 Inv-loop μ-loop
 cast-fill-first-2 c = search needs
 
--- src/lib.rt:65:43
 add-fill-first-2 : tie.Need-add-fill-first-2 Inv-loop μ-loop
 add-fill-first-2 c = search needs
 
--- src/lib.rt:65:5
 fill-first-requires : tie.Need-fill-first-requires Inv-loop μ-loop
 unfolding base
 fill-first-requires c κs =
     let s = c .before .before .before .before .before .before in
     omega (arith, simp length-set at (c .before .before .loop .inv .size), s .pre .1)
 
--- src/lib.rt:50:1
 same-length : tie.Need-same-length Inv-loop μ-loop
 same-length c = c .before .before .fill-first .kept .0 ∙ simp length-set at (c .before .before .before .before .before .loop .inv .size)
 
--- src/lib.rt:50:1
 returns : tie.Need-returns Inv-loop μ-loop
 returns c =
     let s = c .before .before .before .before .before .before .before .before .before in

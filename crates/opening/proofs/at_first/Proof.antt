@@ -22,15 +22,12 @@ Inv-loop work₀ z start vertices p₀ work p = (p ≤ vertices) × (length work
 abbrev μ-loop : tie.MeasureT-loop
 μ-loop work₀ z start vertices p₀ work p = vertices - p
 
--- src/lib.rt:20:5
 loop-holds : tie.Need-loop-holds Inv-loop μ-loop
 loop-holds c = (search needs, refl, written-none (c .before .args .z) (c .before .args .work .now) (c .before .pre .0))
 
--- src/lib.rt:21:33
 fresh-requires : tie.Need-fresh-requires Inv-loop μ-loop
 fresh-requires c κs = search needs
 
--- src/lib.rt:21:9
 put-requires : tie.Need-put-requires Inv-loop μ-loop
 put-requires c κs = (
   omega (arith, c .before .before .before .loop .inv .1, c .before .before .before .before .before .pre .0),
@@ -38,15 +35,12 @@ put-requires c κs = (
   rw (c .fresh .ensures) fits-fresh,
 )
 
--- src/lib.rt:22:9
 add-p : tie.Need-add-p Inv-loop μ-loop
 add-p c = search needs
 
--- src/lib.rt:20:5
 loop-less : tie.Need-loop-less Inv-loop μ-loop
 loop-less c = search needs
 
--- src/lib.rt:20:5
 loop-again : tie.Need-loop-again Inv-loop μ-loop
 loop-again c =
     let s = c .before .before .before .before .before .before .before .before in
@@ -57,19 +51,15 @@ loop-again c =
           (rw (c .before .before .before .fresh .ensures) at (c .before .before .put .ensures)),
     )
 
--- src/lib.rt:24:33
 origin-requires : tie.Need-origin-requires Inv-loop μ-loop
 origin-requires c κs = search needs
 
--- src/lib.rt:24:5
 put-requires-2 : tie.Need-put-requires-2 Inv-loop μ-loop
 put-requires-2 c κs = (omega (arith, c .before .before .before .loop .inv .1, c .before .before .before .before .before .pre .0), omega (arith, c .before .before .before .before .before .pre .1), rw (c .origin .ensures) fits-origin)
 
--- src/lib.rt:14:1
 same-length : tie.Need-same-length Inv-loop μ-loop
 same-length c = c .before .before .put2 .kept .0 ∙ c .before .before .before .before .before .before .loop .inv .1
 
--- src/lib.rt:14:1
 returns : tie.Need-returns Inv-loop μ-loop
 returns c =
     let s = c .before .before .before .before .before .before .before .before in

@@ -15,39 +15,32 @@ Inv-loop work₀ z vertices s₀ work s = Reopening z work₀ work s
 abbrev μ-loop : tie.MeasureT-loop
 μ-loop work₀ z vertices s₀ work s = vertices - s
 
--- src/lib.rt:43:5
 loop-holds : tie.Need-loop-holds Inv-loop μ-loop
 loop-holds c = reopening-none _ _ (c .before .pre)
 
--- src/lib.rt:44:9
 reopen-one-requires : tie.Need-reopen-one-requires Inv-loop μ-loop
 reopen-one-requires c κs =
     let s = c .before .before .before .before in
     let l = c .before .before .loop in
     (ready-kept (s .args .z) (s .args .work .now) (l .work) (s .pre) (l .inv .kept), c .before .loop-test .taken)
 
--- src/lib.rt:45:9
 add-s : tie.Need-add-s Inv-loop μ-loop
 add-s c = search needs
 
--- src/lib.rt:43:5
 loop-less : tie.Need-loop-less Inv-loop μ-loop
 loop-less c = search needs
 
--- src/lib.rt:43:5
 loop-again : tie.Need-loop-again Inv-loop μ-loop
 loop-again c =
     let s = c .before .before .before .before .before .before .before in
     let l = c .before .before .before .before .before .loop in
     reopening-more (s .args .z) (s .args .work .now) (s .pre) (l .work) (l .s) (l .inv) _ (c .before .before .before .before .loop-test .taken) (c .before .before .reopen-one .ensures)
 
--- src/lib.rt:37:1
 same-length : tie.Need-same-length Inv-loop μ-loop
 same-length c =
     let s = c .before .before .before in
     length-kept (s .args .z) (s .args .work .now) (c .before .loop .work) (s .pre) (c .before .loop .inv .kept)
 
--- src/lib.rt:37:1
 returns : tie.Need-returns Inv-loop μ-loop
 returns c =
     let s = c .before .before .before in

@@ -9,23 +9,18 @@ use Rattle.vertices.proofs.reopened.Reads as reopened-reads
 use Rattle.workspace.proofs.layout.load.Reads as load-reads
 use Rattle.workspace.proofs.layout.store.Reads as store-reads
 
--- src/lib.rt:32:9
 load-requires : tie.Need-load-requires
 load-requires c κs = search needs
 
--- src/lib.rt:33:31
 reopened-requires : tie.Need-reopened-requires
 reopened-requires c κs = search needs
 
--- src/lib.rt:33:5
 store-requires : tie.Need-store-requires
 store-requires c κs = (c .before .before .before .before .before .pre .0, c .before .before .before .before .before .pre .1, rw (c .reopened .ensures) (fits-reopened _ (c .before .before .load .ensures .1)))
 
--- src/lib.rt:28:1
 same-length : tie.Need-same-length
 same-length c = search needs
 
--- src/lib.rt:28:1
 returns : tie.Need-returns
 returns c = rw (c .before .before .before .reopened .ensures, c .before .before .before .before .before .load .ensures .0) at (c .before .before .store .ensures)
 

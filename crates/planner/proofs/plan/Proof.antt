@@ -12,53 +12,42 @@ use Rattle.schedule.proofs.rounds.Reads as rounds-reads
 use Rattle.planner.proofs.answers.answer.Reads as answer-reads
 use Rattle.planner.proofs.answers.refused.Reads as refused-reads
 
--- src/lib.rt:29:9
 fault-requires : tie.Need-fault-requires
 fault-requires c κs = search needs
 
--- src/lib.rt:40:27
 enum-known-verdict : tie.Need-enum-known-verdict
 enum-known-verdict c = search needs
 
--- src/lib.rt:41:9
 enum-told : tie.Need-enum-told
 enum-told c = search needs
 
--- src/lib.rt:41:9
 refused-requires : tie.Need-refused-requires
 refused-requires c κs = search needs
 
--- src/lib.rt:41:9
 returns : tie.Need-returns
 returns c = planned-refused _ _ _ _ _ (c .refused .ensures) (c .before .before .before .fault .ensures .decided _ _ refl refl) (c .before .enum-told .given .1)
 
--- src/lib.rt:43:9
 rounds-requires : tie.Need-rounds-requires
 rounds-requires c κs =
     let a = c .before .before .before .before .before .before .before .before .before .before .before .args in
     let d = callOf (a .bytes .now) (a .start) (a .goal) (a .anchor .now) (a .guides .now) (a .guide-count) (a .schedule .now) (a .budget) (a .route .now) (a .log .now) (a .work .now) in
     short d _ _ _ (c .before .before .before .fault .ensures .decided (a .budget) (d .memory) refl refl) (c .before .verdict .given .1)
 
--- src/lib.rt:51:5
 answer-requires : tie.Need-answer-requires
 answer-requires c κs =
     let a = c .before .before .before .before .before .before .before .before .before .before .before .before .before .before .before .args in
     let d = callOf (a .bytes .now) (a .start) (a .goal) (a .anchor .now) (a .guides .now) (a .guide-count) (a .schedule .now) (a .budget) (a .route .now) (a .log .now) (a .work .now) in
     lent-here d (asked d _ _ _ _ (c .before .before .before .before .before .before .before .fault .ensures .decided (a .budget) (d .memory) refl refl) (c .before .before .before .before .before .verdict .given .1) (c .before .before .before .rounds .ensures))
 
--- src/lib.rt:14:1
 same-length : tie.Need-same-length
 same-length c = search needs
 
--- src/lib.rt:14:1
 same-length-2 : tie.Need-same-length-2
 same-length-2 c = search needs
 
--- src/lib.rt:14:1
 same-length-3 : tie.Need-same-length-3
 same-length-3 c = search needs
 
--- src/lib.rt:14:1
 returns-2 : tie.Need-returns-2
 returns-2 c =
     let a = c .before .before .before .before .before .before .before .before .before .before .before .before .before .before .before .before .before .before .before .before .before .before .args in

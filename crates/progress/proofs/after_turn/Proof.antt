@@ -8,11 +8,9 @@ use Rattle.progress.proofs.after_turn.Reads as reads
 use Rattle.progress.proofs.after_turn.Lts as lts
 use Rattle.progress.proofs.stepped.Reads as stepped-reads
 
--- src/lib.rt:58:5
 stepped-requires : tie.Need-stepped-requires
 stepped-requires c κs = search needs
 
--- src/lib.rt:53:1
 returns : tie.Need-returns
 returns c = c .stepped .ensures ∙ moved-turn _ _
 

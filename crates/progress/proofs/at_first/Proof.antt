@@ -7,11 +7,9 @@ use Rattle.progress.proofs.at_first.Reads as reads
 use Rattle.progress.proofs.at_first.Lts as lts
 use Rattle.rules.proofs.first_turn.Reads as first-turn-reads
 
--- src/lib.rt:15:15
 first-turn-requires : tie.Need-first-turn-requires
 first-turn-requires c κs = search needs
 
--- src/lib.rt:11:1
 returns : tie.Need-returns
 unfolding firstProgress
 returns c = rw (c .first-turn .ensures)

@@ -7,16 +7,13 @@ use Rattle.progress.proofs.counted.Tie as tie
 use Rattle.progress.proofs.counted.Reads as reads
 use Rattle.progress.proofs.counted.Lts as lts
 
--- src/lib.rt:25:15
 add-result : tie.Need-add-result
 add-result c = let h = rw (c .if1 .taken) at (c .before .pre) in omega arith
 
--- src/lib.rt:21:1
 returns : tie.Need-returns
 unfolding counted
 returns c = rw (c .if1 .taken) (add-one _)
 
--- src/lib.rt:21:1
 returns-2 : tie.Need-returns-2
 unfolding counted
 returns-2 c = rw (c .if1 .left)

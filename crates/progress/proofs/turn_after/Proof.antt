@@ -8,19 +8,15 @@ use Rattle.progress.proofs.turn_after.Lts as lts
 use Rattle.rules.proofs.first_turn.Reads as first-turn-reads
 use Rattle.rules.proofs.next_turn.Reads as next-turn-reads
 
--- src/lib.rt:15:9
 first-turn-requires : tie.Need-first-turn-requires
 first-turn-requires c κs = search needs
 
--- src/lib.rt:15:9
 returns : tie.Need-returns
 returns c = turn-restarted _ _ _ _ (c .before .if1 .taken) (c .first-turn .ensures)
 
--- src/lib.rt:17:5
 next-turn-requires : tie.Need-next-turn-requires
 next-turn-requires c κs = search needs
 
--- src/lib.rt:11:1
 returns-2 : tie.Need-returns-2
 returns-2 c = turn-passed _ _ _ _ (c .before .if1 .left) (c .next-turn .ensures)
 

@@ -24,7 +24,6 @@ settle-at t = and 4 settle-kinds.ps (is 4 settle-kinds.ps μ-settle t) settle.Pr
 abbrev settle-below : ℕ → In 4 settle-kinds.ps
 settle-below t = and 4 settle-kinds.ps (falls 4 settle-kinds.ps _<_ μ-settle t) settle.Pre
 
--- src/lib.rt:66:9
 settle-returns : (t : ℕ) → settle-lts.Need-returns (
   factors-reads.Asked,
   factors-reads.Learnt,
@@ -37,7 +36,6 @@ settle-returns : (t : ℕ) → settle-lts.Need-returns (
 ) (settle-at t) settle.Post
 settle-returns t c = settles-none _ _ _ _ _ _ _ _ (c .if1 .taken)
 
--- src/lib.rt:71:9
 settle-factors-requires : (t : ℕ) → settle-lts.Need-factors-requires (
   factors-reads.Asked,
   factors-reads.Learnt,
@@ -50,7 +48,6 @@ settle-factors-requires : (t : ℕ) → settle-lts.Need-factors-requires (
 ) (settle-at t) settle.Post
 settle-factors-requires t c κs = round-in _ _ _ _ _ _ _ _ (c .before .before .before .before .before .pre .1) (c .if1 .left)
 
--- src/lib.rt:72:9
 settle-step-requires : (t : ℕ) → settle-lts.Need-step-requires (
   factors-reads.Asked,
   factors-reads.Learnt,
@@ -63,7 +60,6 @@ settle-step-requires : (t : ℕ) → settle-lts.Need-step-requires (
 ) (settle-at t) settle.Post
 settle-step-requires t c κs = step-asks _ _ _ _ _ _ _ _ (c .before .before .before .before .before .before .before .pre .1) (c .before .before .if1 .left) _ (c .before .factors .ensures)
 
--- src/lib.rt:74:24
 settle-enum-told : (t : ℕ) → settle-lts.Need-enum-told (
   factors-reads.Asked,
   factors-reads.Learnt,
@@ -76,7 +72,6 @@ settle-enum-told : (t : ℕ) → settle-lts.Need-enum-told (
 ) (settle-at t) settle.Post
 settle-enum-told t c = search needs
 
--- src/lib.rt:76:35
 settle-enum-told-2 : (t : ℕ) → settle-lts.Need-enum-told-2 (
   factors-reads.Asked,
   factors-reads.Learnt,
@@ -89,7 +84,6 @@ settle-enum-told-2 : (t : ℕ) → settle-lts.Need-enum-told-2 (
 ) (settle-at t) settle.Post
 settle-enum-told-2 t c = search needs
 
--- src/lib.rt:76:17
 settle-end-round-requires : (t : ℕ) → settle-lts.Need-end-round-requires (
   factors-reads.Asked,
   factors-reads.Learnt,
@@ -103,7 +97,6 @@ settle-end-round-requires : (t : ℕ) → settle-lts.Need-end-round-requires (
 settle-end-round-requires t c κs =
     round-over _ _ _ _ _ _ _ _ (c .before .before .before .before .before .before .before .before .before .before .before .before .pre .1) (c .before .before .before .before .before .before .before .if1 .left) _ _ (c .before .before .before .before .before .before .factors .ensures) (c .before .before .before .before .step .ensures .0) (c .before .before .enum-told2 .given .1)
 
--- src/lib.rt:77:20
 settle-sub-settle : (t : ℕ) → settle-lts.Need-sub-settle (
   factors-reads.Asked,
   factors-reads.Learnt,
@@ -116,7 +109,6 @@ settle-sub-settle : (t : ℕ) → settle-lts.Need-sub-settle (
 ) (settle-at t) settle.Post
 settle-sub-settle t c = omega (arith, c .before .before .before .before .before .before .before .before .before .before .before .before .if1)
 
--- src/lib.rt:77:13
 settle-settle-requires : (t : ℕ) → settle-lts.Need-settle-requires (
   factors-reads.Asked,
   factors-reads.Learnt,
@@ -133,7 +125,6 @@ settle-settle-requires t c κs = (
       (c .before .before .before .before .before .before .end-round .ensures),
 )
 
--- src/lib.rt:79:28
 settle-enum-told-3 : (t : ℕ) → settle-lts.Need-enum-told-3 (
   factors-reads.Asked,
   factors-reads.Learnt,
@@ -146,7 +137,6 @@ settle-enum-told-3 : (t : ℕ) → settle-lts.Need-enum-told-3 (
 ) (settle-at t) settle.Post
 settle-enum-told-3 t c = search needs
 
--- src/lib.rt:52:1
 settle-same-length : (t : ℕ) → settle-lts.Need-same-length (
   factors-reads.Asked,
   factors-reads.Learnt,
@@ -159,7 +149,6 @@ settle-same-length : (t : ℕ) → settle-lts.Need-same-length (
 ) (settle-at t) settle.Post
 settle-same-length t c = search needs
 
--- src/lib.rt:52:1
 settle-returns-2 : (t : ℕ) → settle-lts.Need-returns-2 (
   factors-reads.Asked,
   factors-reads.Learnt,
@@ -174,7 +163,6 @@ settle-returns-2 t c =
     let e = c .before .before .step .ensures in
     settles-stop _ _ _ _ _ _ _ _ (c .before .before .before .before .before .if1 .left) _ _ (c .before .before .before .before .factors .ensures) (e .0) (e .1) (λ f. stuck-not (sym (c .enum-told .given .1) ∙ f))
 
--- src/lib.rt:52:1
 settle-same-length-2 : (t : ℕ) → settle-lts.Need-same-length-2 (
   factors-reads.Asked,
   factors-reads.Learnt,
@@ -187,7 +175,6 @@ settle-same-length-2 : (t : ℕ) → settle-lts.Need-same-length-2 (
 ) (settle-at t) settle.Post
 settle-same-length-2 t c = search needs
 
--- src/lib.rt:52:1
 settle-same-length-3 : (t : ℕ) → settle-lts.Need-same-length-3 (
   factors-reads.Asked,
   factors-reads.Learnt,
@@ -200,7 +187,6 @@ settle-same-length-3 : (t : ℕ) → settle-lts.Need-same-length-3 (
 ) (settle-at t) settle.Post
 settle-same-length-3 t c = search needs
 
--- src/lib.rt:52:1
 settle-returns-3 : (t : ℕ) → settle-lts.Need-returns-3 (
   factors-reads.Asked,
   factors-reads.Learnt,
@@ -215,7 +201,6 @@ settle-returns-3 t c =
     settles-on _ _ _ _ _ _ _ _ (c .before .before .before .before .before .before .before .before .before .before .before .before .before .before .before .before .before .before .before .if1 .left) _ _ (c .before .before .before .before .before .before .before .before .before .before .before .before .before .before .before .before .before .before .factors .ensures) (c .before .before .before .before .before .before .before .before .before .before .before .before .before .before .before .before .step .ensures .0) _ _ _ _ _ _ (c .before .before .before .before .before .before .before .before .before .before .before .before .before .before .enum-told2 .given .1)
     (c .before .before .before .before .before .before .before .before .before .before .before .end-round .ensures) (c .before .before .before .before .settle .ensures)
 
--- src/lib.rt:52:1
 settle-same-length-4 : (t : ℕ) → settle-lts.Need-same-length-4 (
   factors-reads.Asked,
   factors-reads.Learnt,
@@ -228,7 +213,6 @@ settle-same-length-4 : (t : ℕ) → settle-lts.Need-same-length-4 (
 ) (settle-at t) settle.Post
 settle-same-length-4 t c = search needs
 
--- src/lib.rt:52:1
 settle-returns-4 : (t : ℕ) → settle-lts.Need-returns-4 (
   factors-reads.Asked,
   factors-reads.Learnt,

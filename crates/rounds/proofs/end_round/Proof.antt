@@ -12,7 +12,6 @@ use Rattle.incumbent.proofs.keep.Reads as keep-reads
 use Rattle.rounds.proofs.reopen_next.Reads as reopen-next-reads
 use Rattle.progress.proofs.after_round.Reads as after-round-reads
 
--- src/lib.rt:46:9
 keep-requires : tie.Need-keep-requires
 keep-requires c κs =
     let a = c .before .before .before .before in
@@ -22,24 +21,19 @@ keep-requires c κs =
       route-long _ _ _ (h .asking) _ _ _ _ (h .carries),
     )
 
--- src/lib.rt:47:5
 reopen-next-requires : tie.Need-reopen-next-requires
 reopen-next-requires c κs = holds-ready _ _ _ _ _ (c .before .before .before .before .before .before .before .before .pre .carries .words)
 
--- src/lib.rt:48:5
 after-round-requires : tie.Need-after-round-requires
 after-round-requires c κs =
     let h = c .before .before .before .before .before .before .before .before .before .before .before .pre in few-rounds _ _ _ _ _ _ _ (h .asking) (h .carries) (h .more) (h .finished)
 
--- src/lib.rt:42:1
 same-length : tie.Need-same-length
 same-length c = search needs
 
--- src/lib.rt:42:1
 same-length-2 : tie.Need-same-length-2
 same-length-2 c = search needs
 
--- src/lib.rt:42:1
 returns : tie.Need-returns
 returns c =
     let e = c .before .before .before .before .before .before .before .keep .ensures in

@@ -9,23 +9,18 @@ use Rattle.rounds.proofs.reopen_next.Reads as reads
 use Rattle.rounds.proofs.reopen_next.Lts as lts
 use Rattle.opening.proofs.reopen.Reads as reopen-reads
 
--- src/lib.rt:36:8
 add-if1 : tie.Need-add-if1
 add-if1 c = search needs
 
--- src/lib.rt:37:9
 reopen-requires : tie.Need-reopen-requires
 reopen-requires c κs = search needs
 
--- src/lib.rt:32:1
 same-length : tie.Need-same-length
 same-length c = search needs
 
--- src/lib.rt:32:1
 returns : tie.Need-returns
 returns c = simp (lt-ltb _ _ (simp add-one at (c .before .before .before .before .if1 .taken))) (c .before .before .reopen .ensures)
 
--- src/lib.rt:32:1
 returns-2 : tie.Need-returns-2
 returns-2 c = simp (le-ltb _ _ (simp add-one at (c .if1 .left)))
 

@@ -9,33 +9,26 @@ use Rattle.rules.proofs.choose.Tie as tie
 use Rattle.rules.proofs.choose.Reads as reads
 use Rattle.rules.proofs.choose.Lts as lts
 
--- src/lib.rt:55:25
 enum-told : tie.Need-enum-told
 enum-told c = search needs
 
--- src/lib.rt:59:21
 enum-known-b : tie.Need-enum-known-b
 enum-known-b c = search needs
 
--- src/lib.rt:60:16
 mul-if1 : tie.Need-mul-if1
 mul-if1 c = omega (arith, c .before .before .before .pre .2 .key _ _ (c .before .b .given .1))
 
--- src/lib.rt:60:27
 mul-if1-2 : tie.Need-mul-if1-2
 mul-if1-2 c = omega (arith, mul-le-mul-right (c .before .before .before .args .m) (c .before .before .before .pre .0))
 
--- src/lib.rt:50:1
 returns : tie.Need-returns
 unfolding choose
 returns c = rw (c .enum-told .given .1)
 
--- src/lib.rt:50:1
 returns-2 : tie.Need-returns-2
 unfolding choose
 returns-2 c = rw (c .before .before .b .given .1, le-leb _ _ (c .if1 .taken))
 
--- src/lib.rt:50:1
 returns-3 : tie.Need-returns-3
 unfolding choose
 returns-3 c = rw (c .before .before .b .given .1, lt-leb _ _ (c .if1 .left))

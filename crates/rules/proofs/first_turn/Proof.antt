@@ -6,12 +6,10 @@ use Rattle.rules.proofs.first_turn.Tie as tie
 use Rattle.rules.proofs.first_turn.Reads as reads
 use Rattle.rules.proofs.first_turn.Lts as lts
 
--- src/lib.rt:76:1
 returns : tie.Need-returns
 unfolding firstTurn
 returns c = simp (eq-eqb _ _ (c .if1 .taken))
 
--- src/lib.rt:76:1
 returns-2 : tie.Need-returns-2
 unfolding firstTurn
 returns-2 c = simp (ne-eqb _ _ (c .if1 .left))

@@ -9,20 +9,16 @@ use Rattle.rules.proofs.next_turn.Reads as reads
 use Rattle.rules.proofs.next_turn.Lts as lts
 use Rattle.rules.proofs.first_turn.Reads as first-turn-reads
 
--- src/lib.rt:86:16
 add-result : tie.Need-add-result
 add-result c = search needs
 
--- src/lib.rt:86:31
 first-turn-requires : tie.Need-first-turn-requires
 first-turn-requires c κs = search needs
 
--- src/lib.rt:83:1
 returns : tie.Need-returns
 unfolding nextTurn
 returns c = simp (lt-ltb _ _ (c .if1 .taken), add-one)
 
--- src/lib.rt:83:1
 returns-2 : tie.Need-returns-2
 unfolding nextTurn
 returns-2 c = simp (le-ltb _ _ (c .before .if1 .left)) (c .first-turn .ensures)

@@ -10,38 +10,30 @@ use Rattle.rules.proofs.step_one.Tie as tie
 use Rattle.rules.proofs.step_one.Reads as reads
 use Rattle.rules.proofs.step_one.Lts as lts
 
--- src/lib.rt:37:25
 enum-told : tie.Need-enum-told
 enum-told c = search needs
 
--- src/lib.rt:38:21
 enum-known-b : tie.Need-enum-known-b
 enum-known-b c = search needs
 
--- src/lib.rt:40:20
 mul-if2 : tie.Need-mul-if2
 mul-if2 c = search needs
 
--- src/lib.rt:40:33
 mul-if2-2 : tie.Need-mul-if2-2
 mul-if2-2 c = omega (arith, c .before .before .before .before .pre .1 .key _ _ (c .before .before .b .given .1), mul-le-mul-right (c .before .before .b .given .0 .0) (c .before .before .before .before .pre .0))
 
--- src/lib.rt:41:21
 returns : tie.Need-returns
 unfolding stepOne unreached
 returns c = simp (c .before .before .before .b .given .1, lt-ltb _ _ (c .before .if1 .taken), le-leb _ _ (c .if2 .taken))
 
--- src/lib.rt:32:1
 returns-2 : tie.Need-returns-2
 unfolding stepOne
 returns-2 c = rw (c .enum-told .given .1)
 
--- src/lib.rt:32:1
 returns-3 : tie.Need-returns-3
 unfolding stepOne unreached
 returns-3 c = simp (c .before .before .before .b .given .1, lt-ltb _ _ (c .before .if1 .taken), lt-leb _ _ (c .if2 .left))
 
--- src/lib.rt:32:1
 returns-4 : tie.Need-returns-4
 unfolding stepOne unreached
 returns-4 c = simp (c .before .before .b .given .1, le-ltb _ _ (c .if1 .left))

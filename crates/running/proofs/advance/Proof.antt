@@ -13,66 +13,52 @@ use Rattle.turn.proofs.turn.Reads as turn-reads
 use Rattle.rounds.proofs.settle.Reads as settle-reads
 use Rattle.progress.proofs.after_turn.Reads as after-turn-reads
 
--- src/lib.rt:31:24
 enum-told : tie.Need-enum-told
 enum-told c = search needs
 
--- src/lib.rt:32:27
 enum-told-2 : tie.Need-enum-told-2
 enum-told-2 c = search needs
 
--- src/lib.rt:33:19
 enum-known-step : tie.Need-enum-known-step
 enum-known-step c = search needs
 
--- src/lib.rt:34:17
 factors-requires : tie.Need-factors-requires
 factors-requires c κs =
     let h = c .before .before .before .before .before .before .before .before .before .before .pre in round-in (h .call) _ _ (h .stand) (h .turns) _ _ _ _ _ _ _ (h .asking) (h .given) (h .reaches) _ _ (c .before .step .given .1)
 
--- src/lib.rt:35:13
 turn-requires : tie.Need-turn-requires
 turn-requires c κs =
     let h = c .before .before .before .before .before .before .before .before .before .before .before .before .before .pre in turn-asks (h .call) _ _ (h .stand) (h .turns) _ _ _ _ _ _ _ (h .asking) (h .given) (h .reaches) _ _ (c .before .before .before .before .step .given .1) _ (c .before .before .factors .ensures)
 
--- src/lib.rt:36:17
 after-turn-requires : tie.Need-after-turn-requires
 after-turn-requires c κs = search needs
 
--- src/lib.rt:37:24
 sub-left : tie.Need-sub-left
 sub-left c =
     let h = c .before .before .before .before .before .before .before .before .before .before .before .before .before .before .before .before .before .before .before .before .before .pre in
     let w = c .before .before .before .before .before .before .before .turn .ensures in
     left-enough (h .call) _ _ (h .stand) (h .turns) _ _ _ _ _ _ _ (h .asking) (h .given) (h .reaches) _ _ (c .before .before .before .before .before .before .before .before .before .before .before .before .step .given .1) _ (c .before .before .before .before .before .before .before .before .before .before .factors .ensures) _ _ _ (c .before .before .after-turn .ensures) (w .0) (w .1)
 
--- src/lib.rt:38:13
 settle-requires : tie.Need-settle-requires
 settle-requires c κs =
     let w = c .before .before .before .before .before .before .before .before .before .turn .ensures in
     settling-next _ _ _ _ _ _ _ _ _ _ _ (c .before .before .before .before .before .before .before .before .before .before .before .before .before .before .step .given .1) _ (c .before .before .before .before .before .before .before .before .before .before .before .before .factors .ensures) _ _ _ (c .before .before .before .before .after-turn .ensures) (w .0) (w .1) (c .before .before .before .before .before .before .before .before .before .before .before .before .before .before .before .before .before .before .before .before .before .before .before .pre)
 
--- src/lib.rt:14:1
 returns : tie.Need-returns
 returns c = advances-over _ _ _ _ _ _ _ _ _ (λ m b e. stuck≢due (sym (c .enum-told .given .1) ∙ e))
 
--- src/lib.rt:14:1
 returns-2 : tie.Need-returns-2
 returns-2 c = advances-over _ _ _ _ _ _ _ _ _ (λ m b e. finished≢due (sym (c .enum-told2 .given .1) ∙ e))
 
--- src/lib.rt:14:1
 same-length : tie.Need-same-length
 same-length c = search needs
 
--- src/lib.rt:14:1
 same-length-2 : tie.Need-same-length-2
 same-length-2 c = search needs
 
--- src/lib.rt:14:1
 same-length-3 : tie.Need-same-length-3
 same-length-3 c = search needs
 
--- src/lib.rt:14:1
 returns-3 : tie.Need-returns-3
 returns-3 c =
     let w = c .before .before .before .before .before .before .before .before .before .before .before .before .before .before .turn .ensures in

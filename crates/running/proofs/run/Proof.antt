@@ -21,33 +21,26 @@ abbrev μ-loop : tie.MeasureT-loop
 μ-loop work₀ route₀ log₀ anchor guides schedule z q budget stand₀ left₀ going₀ work route log stand left going =
     left
 
--- src/lib.rt:73:9
 goes-on-requires : tie.Need-goes-on-requires Inv-loop μ-loop
 goes-on-requires c κs = search needs
 
--- src/lib.rt:74:5
 loop-holds : tie.Need-loop-holds Inv-loop μ-loop
 loop-holds c = (ran-none _ _ _ _ _ _ _ _ _ _ _ (c .goes-on .ensures), refl, refl, refl)
 
--- src/lib.rt:75:9
 advance-requires : tie.Need-advance-requires Inv-loop μ-loop
 advance-requires c κs =
     advancing _ _ _ _ _ _ _ _ _ _ _ _ _ _ _ (ran-going (c .before .before .before .loop-test .taken) (c .before .before .before .before .loop .inv .0)) (c .before .before .before .before .before .before .before .before .before .before .before .before .pre) (omega (arith, c .before .before .before .before .before .before .before .before .before .before .before .before))
 
--- src/lib.rt:76:9
 sub-left : tie.Need-sub-left Inv-loop μ-loop
 sub-left c = left-some _ _ _ _ _ _ _ _ _ _ _ _ _ _ _ (ran-going (c .before .before .before .before .before .before .before .before .before .before .loop-test .taken) (c .before .before .before .before .before .before .before .before .before .before .before .loop .inv .0))
 
--- src/lib.rt:77:9
 goes-on-requires-2 : tie.Need-goes-on-requires-2 Inv-loop μ-loop
 goes-on-requires-2 c κs = search needs
 
--- src/lib.rt:74:5
 loop-less : tie.Need-loop-less Inv-loop μ-loop
 loop-less c =
     omega (arith, left-some _ _ _ _ _ _ _ _ _ _ _ _ _ _ _ (ran-going (c .before .before .before .before .before .before .before .before .before .before .before .loop-test .taken) (c .before .before .before .before .before .before .before .before .before .before .before .before .loop .inv .0)))
 
--- src/lib.rt:74:5
 loop-again : tie.Need-loop-again Inv-loop μ-loop
 loop-again c =
     let i = c .before .before .before .before .before .before .before .before .before .before .before .before .loop .inv in (
@@ -57,19 +50,15 @@ loop-again c =
       search needs,
     )
 
--- src/lib.rt:56:1
 same-length : tie.Need-same-length Inv-loop μ-loop
 same-length c = c .before .loop .inv .1
 
--- src/lib.rt:56:1
 same-length-2 : tie.Need-same-length-2 Inv-loop μ-loop
 same-length-2 c = c .before .loop .inv .2
 
--- src/lib.rt:56:1
 same-length-3 : tie.Need-same-length-3 Inv-loop μ-loop
 same-length-3 c = c .before .loop .inv .3
 
--- src/lib.rt:56:1
 returns : tie.Need-returns Inv-loop μ-loop
 returns c = ran-all _ _ _ _ _ _ _ _ _ _ _ _ _ _ _ (ran-stopped (c .loop-test .left) (c .before .loop .inv .0))
 

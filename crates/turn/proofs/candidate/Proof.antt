@@ -9,57 +9,44 @@ use Rattle.turn.proofs.candidate.Reads as reads
 use Rattle.turn.proofs.candidate.Lts as lts
 use Rattle.turn.proofs.scan.least.Reads as least-reads
 
--- src/lib.rt:38:9
 returns : tie.Need-returns
 returns c =
     let s = c .before .before .before in
     (sym (candidate-none _ _ (s .args .i) _ (c .if1 .taken)), within-nobody (s .args .z .vertices))
 
--- src/lib.rt:41:18
 sub-from : tie.Need-sub-from
 sub-from c = search needs
 
--- src/lib.rt:41:17
 cast-from : tie.Need-cast-from
 cast-from c = search needs
 
--- src/lib.rt:41:38
 cast-from-2 : tie.Need-cast-from-2
 cast-from-2 c = search needs
 
--- src/lib.rt:41:16
 mul-from : tie.Need-mul-from
 mul-from c = omega (arith, sheet-fits (c .before .before .before .args .i) (c .before .before .before .args .z .vertices) (c .if1 .left))
 
--- src/lib.rt:42:22
 cast-to : tie.Need-cast-to
 cast-to c = search needs
 
--- src/lib.rt:42:14
 add-to : tie.Need-add-to
 add-to c = omega (arith, sheet-fits (c .before .before .before .args .i) (c .before .before .before .args .z .vertices) (c .if1 .left))
 
--- src/lib.rt:43:19
 mul-numbers : tie.Need-mul-numbers
 mul-numbers c = omega (arith, sheet-fits (c .before .before .before .args .i) (c .before .before .before .args .z .vertices) (c .if1 .left))
 
--- src/lib.rt:43:19
 sub-numbers : tie.Need-sub-numbers
 sub-numbers c = search needs
 
--- src/lib.rt:43:19
 part-numbers-start : tie.Need-part-numbers-start
 part-numbers-start c = search needs
 
--- src/lib.rt:43:19
 part-numbers-end : tie.Need-part-numbers-end
 part-numbers-end c = omega (arith, sheet-fits (c .before .before .before .args .i) (c .before .before .before .args .z .vertices) (c .if1 .left))
 
--- src/lib.rt:44:5
 least-requires : tie.Need-least-requires
 least-requires c κs = search needs
 
--- src/lib.rt:33:1
 returns-2 : tie.Need-returns-2
 returns-2 c =
     let s = c .before .before .before .before .before in

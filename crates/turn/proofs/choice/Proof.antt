@@ -9,15 +9,12 @@ use Rattle.turn.proofs.choice.Lts as lts
 use Rattle.turn.proofs.candidate.Reads as candidate-reads
 use Rattle.rules.proofs.choose.Reads as choose-reads
 
--- src/lib.rt:54:9
 candidate-requires : tie.Need-candidate-requires
 candidate-requires c κs = search needs
 
--- src/lib.rt:55:5
 choose-requires : tie.Need-choose-requires
 choose-requires c κs = search needs
 
--- src/lib.rt:48:1
 returns : tie.Need-returns
 unfolding choiceOf
 returns c =

@@ -8,32 +8,25 @@ use Rattle.turn.proofs.note.Tie as tie
 use Rattle.turn.proofs.note.Reads as reads
 use Rattle.turn.proofs.note.Lts as lts
 
--- src/lib.rt:67:28
 mul-log : tie.Need-mul-log
 mul-log c = search needs
 
--- src/lib.rt:67:19
 add-log : tie.Need-add-log
 add-log c = search needs
 
--- src/lib.rt:67:9
 mul-log-2 : tie.Need-mul-log-2
 mul-log-2 c = search needs
 
--- src/lib.rt:67:9
 slice-write-log : tie.Need-slice-write-log
 slice-write-log c = search needs
 
--- src/lib.rt:59:1
 same-length : tie.Need-same-length
 same-length c = search needs
 
--- src/lib.rt:59:1
 returns : tie.Need-returns
 unfolding choiceWord
 returns c = search needs
 
--- src/lib.rt:59:1
 returns-2 : tie.Need-returns-2
 returns-2 c = sym (set-out _ _ _ (c .if1 .left))
 

@@ -9,19 +9,15 @@ use Rattle.turn.proofs.scan.least.Reads as least-reads
 use Rattle.rules.proofs.step_one.Reads as step-one-reads
 use Rattle.workspace.proofs.layout.load.Reads as load-reads
 
--- src/lib.rt:27:9
 load-requires : tie.Need-load-requires
 load-requires c κs = search needs
 
--- src/lib.rt:28:9
 least-requires : tie.Need-least-requires
 least-requires c κs = search needs
 
--- src/lib.rt:29:5
 step-one-requires : tie.Need-step-one-requires
 step-one-requires c κs = search needs
 
--- src/lib.rt:21:1
 returns : tie.Need-returns
 returns c = (
   rw (c .step-one .ensures, c .before .least .ensures .0, c .before .before .load .ensures .0),

@@ -8,27 +8,21 @@ use Rattle.expansion.proofs.expand.Reads as expand-reads
 use Rattle.turn.proofs.choice.Reads as choice-reads
 use Rattle.turn.proofs.note.Reads as note-reads
 
--- src/lib.rt:87:9
 choice-requires : tie.Need-choice-requires
 choice-requires c κs = search needs
 
--- src/lib.rt:88:5
 note-requires : tie.Need-note-requires
 note-requires c κs = search needs
 
--- src/lib.rt:89:5
 expand-requires : tie.Need-expand-requires
 expand-requires c κs = search needs
 
--- src/lib.rt:72:1
 same-length : tie.Need-same-length
 same-length c = search needs
 
--- src/lib.rt:72:1
 same-length-2 : tie.Need-same-length-2
 same-length-2 c = search needs
 
--- src/lib.rt:72:1
 returns : tie.Need-returns
 returns c =
     let q = c .before .before .before .before .before .before .before .before .choice .ensures .0 in

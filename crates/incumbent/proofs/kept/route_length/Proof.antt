@@ -15,31 +15,24 @@ Inv-loop route v n₀ n = Counting route v n
 abbrev μ-loop : tie.MeasureT-loop
 μ-loop route v n₀ n = v - n
 
--- src/kept.rt:13:5
 loop-holds : tie.Need-loop-holds Inv-loop μ-loop
 loop-holds c = counting-none (c .args .route .now) (c .args .v)
 
--- src/kept.rt:13:26
 cast-if1 : tie.Need-cast-if1 Inv-loop μ-loop
 cast-if1 c = search needs
 
--- src/kept.rt:13:20
 mul-if1 : tie.Need-mul-if1 Inv-loop μ-loop
 mul-if1 c = search needs
 
--- src/kept.rt:13:20
 shared-slice-read-if1 : tie.Need-shared-slice-read-if1 Inv-loop μ-loop
 shared-slice-read-if1 c = search needs
 
--- src/kept.rt:14:9
 add-n : tie.Need-add-n Inv-loop μ-loop
 add-n c = search needs
 
--- src/kept.rt:13:5
 loop-less : tie.Need-loop-less Inv-loop μ-loop
 loop-less c = search needs
 
--- src/kept.rt:13:5
 loop-again : tie.Need-loop-again Inv-loop μ-loop
 unfolding routeEnd
 loop-again c =
@@ -47,7 +40,6 @@ loop-again c =
     let l = c .before .before .before .loop in
     counting-more (s .args .route .now) (s .args .v) (l .n) (l .inv) (c .before .before .loop-test .taken) (s .pre) (eqb-false _ _ (not-true _ (c .if1 .taken)))
 
--- src/kept.rt:8:1
 returns : tie.Need-returns Inv-loop μ-loop
 unfolding routeEnd
 returns c =
@@ -55,7 +47,6 @@ returns c =
     let l = c .before .before .before .loop in
     counting-end (s .args .route .now) (s .args .v) (l .n) (l .inv) (c .before .before .loop-test .taken) (s .pre) (eqb-true _ _ (not-false _ (c .if1 .left)))
 
--- src/kept.rt:8:1
 returns-2 : tie.Need-returns-2 Inv-loop μ-loop
 returns-2 c =
     let s = c .before .before in

@@ -17,42 +17,33 @@ Inv-loop route₀ n v i₀ route i = (length route ≡ length route₀) × (sets
 abbrev μ-loop : tie.MeasureT-loop
 μ-loop route₀ n v i₀ route i = v - i
 
--- src/laying.rt:45:5
 loop-holds : tie.Need-loop-holds Inv-loop μ-loop
 loop-holds c = (refl, refl)
 
--- src/laying.rt:46:15
 cast-route : tie.Need-cast-route Inv-loop μ-loop
 cast-route c = search needs
 
--- src/laying.rt:46:9
 mul-route : tie.Need-mul-route Inv-loop μ-loop
 mul-route c = search needs
 
--- src/laying.rt:46:9
 slice-write-route : tie.Need-slice-write-route Inv-loop μ-loop
 slice-write-route c = search needs
 
--- src/laying.rt:47:9
 add-i : tie.Need-add-i Inv-loop μ-loop
 add-i c = search needs
 
--- src/laying.rt:45:5
 loop-less : tie.Need-loop-less Inv-loop μ-loop
 loop-less c = search needs
 
--- src/laying.rt:45:5
 loop-again : tie.Need-loop-again Inv-loop μ-loop
 unfolding routeEnd
 loop-again c =
     let l = c .before .loop in
     (length-set (l .route) (l .i) _ ∙ l .inv .0, fill-more _ (l .i) _ (l .route) (c .loop-test .taken) ∙ l .inv .1)
 
--- src/laying.rt:40:1
 same-length : tie.Need-same-length Inv-loop μ-loop
 same-length c = c .before .loop .inv .0
 
--- src/laying.rt:40:1
 returns : tie.Need-returns Inv-loop μ-loop
 returns c =
     let l = c .before .loop in

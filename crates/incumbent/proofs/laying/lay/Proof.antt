@@ -9,24 +9,20 @@ use Rattle.incumbent.proofs.laying.lay.Lts as lts
 use Rattle.incumbent.proofs.laying.fill.Reads as fill-reads
 use Rattle.incumbent.proofs.laying.put_all.Reads as put-all-reads
 
--- src/laying.rt:56:5
 put-all-requires : tie.Need-put-all-requires
 put-all-requires c κs =
     let s = c .before .before .before in
     (s .pre .0, omega (arith, s .pre .1, s .pre .2, tracedIn-most (s .args .z) (s .args .work .now) (s .args .start) (s .args .goal)))
 
--- src/laying.rt:57:5
 fill-requires : tie.Need-fill-requires
 fill-requires c κs =
     let s = c .before .before .before .before .before .before .before in
     let m = tracedIn-most (s .args .z) (s .args .work .now) (s .args .start) (s .args .goal) in
     (omega (arith, s .pre .2), omega (arith, s .pre .1, s .pre .2))
 
--- src/laying.rt:52:1
 same-length : tie.Need-same-length
 same-length c = search needs
 
--- src/laying.rt:52:1
 returns : tie.Need-returns
 returns c =
     let s = c .before .before .before .before .before .before .before .before .before .before in

@@ -15,36 +15,29 @@ Inv-loop work route₀ z goal n i₀ x₀ route i x = Laying (verticesOf z work)
 abbrev μ-loop : tie.MeasureT-loop
 μ-loop work route₀ z goal n i₀ x₀ route i x = i
 
--- src/laying.rt:33:5
 loop-holds : tie.Need-loop-holds Inv-loop μ-loop
 loop-holds c =
     let s = c .before .before .args in
     laying-none (verticesOf (s .z) (s .work .now)) (s .n) (s .goal) (s .route .now)
 
--- src/laying.rt:34:9
 sub-i : tie.Need-sub-i Inv-loop μ-loop
 sub-i c = search needs
 
--- src/laying.rt:35:9
 put-requires : tie.Need-put-requires Inv-loop μ-loop
 put-requires c κs = (c .before .before .before .before .before .pre .0, omega (arith, c .before .before .loop .inv .most, c .before .before .loop .inv .long, c .before .before .before .before .before .pre .1))
 
--- src/laying.rt:33:5
 loop-less : tie.Need-loop-less Inv-loop μ-loop
 loop-less c = search needs
 
--- src/laying.rt:33:5
 loop-again : tie.Need-loop-again Inv-loop μ-loop
 loop-again c =
     let s = c .before .before .before .before .before .before .before .before in
     let l = c .before .before .before .before .before .loop in
     laying-more (verticesOf (s .args .z) (s .args .work .now)) (s .args .n) (s .args .goal) (s .args .route .now) (l .route) (l .i) (l .x) (l .inv) _ _ (c .before .before .before .before .loop-test .taken) (s .pre .1) (c .before .before .put .ensures .1) (c .before .before .put .ensures .0)
 
--- src/laying.rt:27:1
 same-length : tie.Need-same-length Inv-loop μ-loop
 same-length c = c .before .loop .inv .long
 
--- src/laying.rt:27:1
 returns : tie.Need-returns Inv-loop μ-loop
 returns c =
     let s = c .before .before .before .before in

@@ -11,49 +11,38 @@ use Rattle.stages.proofs.begin.begin.Reads as begin-reads
 use Rattle.stages.proofs.finish.finish.Reads as finish-reads
 use Rattle.running.proofs.run.Reads as run-reads
 
--- src/answers.rt:39:36
 header-requires : tie.Need-header-requires
 header-requires c κs = search needs
 
--- src/answers.rt:39:30
 enum-known-at : tie.Need-enum-known-at
 enum-known-at c = search needs
 
--- src/answers.rt:40:9
 enum-told : tie.Need-enum-told
 enum-told c = search needs
 
--- src/answers.rt:40:9
 returns : tie.Need-returns
 returns c = answers-none _ _ _ _ _ _ _ _ _ _ _ _ (sym (c .before .before .header .ensures) ∙ c .enum-told .given .1)
 
--- src/answers.rt:42:9
 begin-requires : tie.Need-begin-requires
 begin-requires c κs = beginning _ _ _ _ _ _ _ _ _ _ _ _ (sym (c .before .before .before .before .before .header .ensures) ∙ c .before .before .before .at .given .1) (c .before .before .before .before .before .before .before .before .before .before .before .before .before .pre)
 
--- src/answers.rt:43:9
 run-requires : tie.Need-run-requires
 run-requires c κs = running _ _ _ _ _ _ _ _ _ _ _ _ (sym (c .before .before .before .before .before .before .before .before .before .before .before .before .before .header .ensures) ∙ c .before .before .before .before .before .before .before .before .before .before .before .at .given .1) _ _ _ (c .before .before .before .before .before .before .before .begin .ensures) (c .before .before .before .before .before .before .before .before .before .before .before .before .before .before .before .before .before .before .before .before .before .pre)
 
--- src/answers.rt:55:5
 finish-requires : tie.Need-finish-requires
 finish-requires c κs =
     finishing _ _ _ _ _ _ _ _ _ _ _ _ (sym (c .before .before .before .before .before .before .before .before .before .before .before .before .before .before .before .before .before .before .before .before .before .header .ensures) ∙ c .before .before .before .before .before .before .before .before .before .before .before .before .before .before .before .before .before .before .before .at .given .1) _ _ _ (c .before .before .before .before .before .before .before .before .before .before .before .before .before .before .before .begin .ensures) _ _ _ _ _
     (c .before .before .before .before .before .before .before .run .ensures) (c .before .before .before .before .before .before .before .before .before .before .before .before .before .before .before .before .before .before .before .before .before .before .before .before .before .before .before .before .before .pre)
 
--- src/answers.rt:24:1
 same-length : tie.Need-same-length
 same-length c = search needs
 
--- src/answers.rt:24:1
 same-length-2 : tie.Need-same-length-2
 same-length-2 c = search needs
 
--- src/answers.rt:24:1
 same-length-3 : tie.Need-same-length-3
 same-length-3 c = search needs
 
--- src/answers.rt:24:1
 returns-2 : tie.Need-returns-2
 returns-2 c =
     answers-all _ _ _ _ _ _ _ _ _ _ _ _ (sym (c .before .before .before .before .before .before .before .before .before .before .before .before .before .before .before .before .before .before .before .before .before .before .header .ensures) ∙ c .before .before .before .before .before .before .before .before .before .before .before .before .before .before .before .before .before .before .before .before .at .given .1) _ _ _ (c .before .before .before .before .before .before .before .before .before .before .before .before .before .before .before .before .begin .ensures) _ _ _ _ _

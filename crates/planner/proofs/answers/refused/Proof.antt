@@ -7,19 +7,15 @@ use Rattle.planner.proofs.answers.refused.Tie as tie
 use Rattle.planner.proofs.answers.refused.Reads as reads
 use Rattle.planner.proofs.answers.refused.Lts as lts
 
--- src/answers.rt:18:36
 enum-told : tie.Need-enum-told
 enum-told c = search needs
 
--- src/answers.rt:19:26
 enum-known-verdict : tie.Need-enum-known-verdict
 enum-known-verdict c = search needs
 
--- src/answers.rt:14:1
 returns : tie.Need-returns
 returns c = search needs
 
--- src/answers.rt:14:1
 returns-2 : tie.Need-returns-2
 returns-2 c = sym (ap refusalOf (c .before .verdict .given .1))
 

@@ -6,12 +6,10 @@ use Rattle.rules.proofs.Lead.best.Tie as tie
 use Rattle.rules.proofs.Lead.best.Reads as reads
 use Rattle.rules.proofs.Lead.best.Lts as lts
 
--- src/lib.rt:49:13
 returns : tie.Need-returns
 unfolding bestOf
 returns c = simp (eq-eqb _ _ (c .if1 .taken))
 
--- src/lib.rt:44:5
 returns-2 : tie.Need-returns-2
 unfolding bestOf
 returns-2 c = simp (ne-eqb _ _ (c .if1 .left))

@@ -28,11 +28,9 @@ module _ (k s : ℕ) (l : Lead) (small : k ≤ maxKey) where
   unfolding bestOf better
   better-left h = simp (ne-eqb (l .key) noKey (λ e. omega arith), le-ltb k (l .key) h)
 
--- src/lib.rt:39:13
 returns : tie.Need-returns
 returns c = better-taken _ _ (c .before .before .args .self) (c .before .before .pre) (c .if1 .taken)
 
--- src/lib.rt:34:5
 returns-2 : tie.Need-returns-2
 returns-2 c = better-left _ _ (c .before .before .args .self) (c .before .before .pre) (c .if1 .left)
 

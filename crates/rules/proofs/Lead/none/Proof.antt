@@ -6,7 +6,6 @@ use Rattle.rules.proofs.Lead.none.Tie as tie
 use Rattle.rules.proofs.Lead.none.Reads as reads
 use Rattle.rules.proofs.Lead.none.Lts as lts
 
--- src/lib.rt:24:5
 returns : tie.Need-returns
 unfolding bestOf
 returns c = search needs

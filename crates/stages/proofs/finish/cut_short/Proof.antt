@@ -7,15 +7,12 @@ use Rattle.stages.proofs.finish.cut_short.Reads as reads
 use Rattle.stages.proofs.finish.cut_short.Lts as lts
 use Rattle.stages.proofs.finish.summary.Reads as summary-reads
 
--- src/finish.rt:36:9
 returns : tie.Need-returns
 returns c = cut-first _ _ _ _ (c .if1 .taken)
 
--- src/finish.rt:38:19
 summary-requires : tie.Need-summary-requires
 summary-requires c κs = search needs
 
--- src/finish.rt:31:1
 returns-2 : tie.Need-returns-2
 returns-2 c = cut-later _ _ _ _ _ (c .before .if1 .left) (c .summary .ensures)
 

@@ -8,37 +8,29 @@ use Rattle.stages.proofs.finish.finish.Lts as lts
 use Rattle.stages.proofs.finish.cut_short.Reads as cut-short-reads
 use Rattle.stages.proofs.finish.summary.Reads as summary-reads
 
--- src/finish.rt:49:24
 enum-told : tie.Need-enum-told
 enum-told c = search needs
 
--- src/finish.rt:50:41
 enum-told-2 : tie.Need-enum-told-2
 enum-told-2 c = search needs
 
--- src/finish.rt:50:41
 summary-requires : tie.Need-summary-requires
 summary-requires c κs =
     let h = c .before .before .before .before .before .pre in (end-figured _ _ _ _ _ _ _ (h .at-end), some-round _ _ _ _ _ _ _ (h .at-end) (c .enum-told2 .given .1))
 
--- src/finish.rt:51:28
 enum-told-3 : tie.Need-enum-told-3
 enum-told-3 c = search needs
 
--- src/finish.rt:51:28
 cut-short-requires : tie.Need-cut-short-requires
 cut-short-requires c κs = let h = c .before .before .before .before .before .pre in end-figured _ _ _ _ _ _ _ (h .at-end)
 
--- src/finish.rt:42:1
 returns : tie.Need-returns
 returns c = record { finishes = λ d y w h. answers-none d _ y _ _ w _ h (c .enum-told .given .1) }
 
--- src/finish.rt:42:1
 returns-2 : tie.Need-returns-2
 returns-2 c =
     record { finishes = λ d y w h. answers-route d _ y _ _ w _ h _ (c .before .enum-told2 .given .1) (c .summary .ensures) }
 
--- src/finish.rt:42:1
 returns-3 : tie.Need-returns-3
 returns-3 c =
     record { finishes = λ d y w h. answers-cut d _ y _ _ w _ h _ _ _ (c .before .enum-told3 .given .1) (c .cut-short .ensures) }

@@ -9,24 +9,19 @@ use Rattle.stages.proofs.finish.summary.Lts as lts
 use Rattle.schedule.proofs.factors.Reads as factors-reads
 use Rattle.incumbent.proofs.kept.route_length.Reads as route-length-reads
 
--- src/finish.rt:18:9
 route-length-requires : tie.Need-route-length-requires
 route-length-requires c κs = search needs
 
--- src/finish.rt:19:41
 sub-factors : tie.Need-sub-factors
 sub-factors c = search needs
 
--- src/finish.rt:19:9
 factors-requires : tie.Need-factors-requires
 factors-requires c κs = search needs
 
--- src/finish.rt:20:17
 mul-bound : tie.Need-mul-bound
 mul-bound c =
     let h = c .before .before .before .before .before .before .pre in omega (arith, bound-fits _ _ _ _ _ (c .before .factors .ensures) (h .0) (h .1))
 
--- src/finish.rt:14:1
 returns : tie.Need-returns
 returns c = figures-are _ _ _ _ _ (c .before .factors .ensures) _ (c .before .before .before .route-length .ensures)
 

@@ -20,31 +20,25 @@ Inv-loop work z a b vertices found₀ j₀ end found j = Looking z work a b end 
 abbrev μ-loop : tie.MeasureT-loop
 μ-loop work z a b vertices found₀ j₀ end found j = end - j
 
--- src/edges.rt:36:9
 returns : tie.Need-returns Inv-loop μ-loop
 returns c =
     let s = c .before .before .args in
     (sym (cost-outside (s .z) (s .work .now) (s .a) (s .b) (c .if1 .taken)), none-most maxWord)
 
--- src/edges.rt:38:9
 first-edge-requires : tie.Need-first-edge-requires Inv-loop μ-loop
 first-edge-requires c κs = (c .before .before .pre .room, omega arith)
 
--- src/edges.rt:39:43
 add-first-edge : tie.Need-add-first-edge Inv-loop μ-loop
 add-first-edge c = search needs
 
--- src/edges.rt:39:9
 first-edge-requires-2 : tie.Need-first-edge-requires-2 Inv-loop μ-loop
 first-edge-requires-2 c κs = (c .before .before .before .pre .room, omega arith)
 
--- src/edges.rt:40:5
 loop-holds : tie.Need-loop-holds Inv-loop μ-loop
 loop-holds c =
     let s = c .before .before .before .before .args in
     (looking-none (s .z) (s .work .now) (s .a) (s .b) _ _ (omega arith) (c .before .first-edge .ensures) (c .first-edge2 .ensures), none-most maxWord)
 
--- src/edges.rt:41:9
 look-requires : tie.Need-look-requires Inv-loop μ-loop
 look-requires c κs =
     let s = c .before .before .before .before .before .before in
@@ -52,22 +46,18 @@ look-requires c κs =
     let a = s .args .a in
     (s .pre .room, omega (arith, s .pre .ends a (omega arith), ap (firstOf w) (add-one a), c .before .before .first-edge2 .ensures), c .before .loop .inv .1)
 
--- src/edges.rt:42:9
 add-j : tie.Need-add-j Inv-loop μ-loop
 add-j c = search needs
 
--- src/edges.rt:40:5
 loop-less : tie.Need-loop-less Inv-loop μ-loop
 loop-less c = search needs
 
--- src/edges.rt:40:5
 loop-again : tie.Need-loop-again Inv-loop μ-loop
 loop-again c =
     let s = c .before .before .before .before .before .before .before .args in
     let l = c .before .before .loop in
     (looking-more (s .z) (s .work .now) (s .a) (s .b) _ (l .j) (l .found) (l .inv .0) _ (c .before .loop-test .taken) (c .look .ensures .0), c .look .ensures .1)
 
--- src/edges.rt:29:1
 returns-2 : tie.Need-returns-2 Inv-loop μ-loop
 returns-2 c =
     let s = c .before .before .before .before .before .before .args in

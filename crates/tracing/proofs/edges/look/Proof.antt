@@ -16,24 +16,19 @@ use Rattle.workspace.proofs.layout.edge.Reads as edge-reads
 enum-told : tie.Need-enum-told
 enum-told c = search needs
 
--- src/edges.rt:18:9
 enum-told-2 : tie.Need-enum-told-2
 enum-told-2 c = search needs
 
--- src/edges.rt:18:9
 returns : tie.Need-returns
 unfolding orElse
 returns c = (rw (c .enum-told2 .given .1), c .before .before .before .pre .2)
 
--- src/edges.rt:20:9
 edge-requires : tie.Need-edge-requires
 edge-requires c κs = search needs
 
--- src/edges.rt:23:32
 cast-t10 : tie.Need-cast-t10
 cast-t10 c = search needs
 
--- src/edges.rt:23:9
 returns-2 : tie.Need-returns-2
 unfolding orElse edgeAt
 returns-2 c =
@@ -42,7 +37,6 @@ returns-2 c =
       cost-most _ _ (omega arith),
     )
 
--- src/edges.rt:13:1
 returns-3 : tie.Need-returns-3
 unfolding orElse edgeAt
 returns-3 c =

@@ -11,23 +11,18 @@ use Rattle.tracing.proofs.edges.edge_cost.Reads as edge-cost-reads
 use Rattle.tracing.proofs.preds.plus.Reads as plus-reads
 use Rattle.tracing.proofs.preds.pred_of.Reads as pred-of-reads
 
--- src/preds.rt:49:9
 pred-of-requires : tie.Need-pred-of-requires
 pred-of-requires c κs = search needs
 
--- src/preds.rt:50:9
 edge-cost-requires : tie.Need-edge-cost-requires
 edge-cost-requires c κs = search needs
 
--- src/preds.rt:52:9
 plus-requires : tie.Need-plus-requires
 plus-requires c κs = (c .edge-cost .ensures .1, most-le _ _ _ (omega (arith, c .before .before .before .pre .1)) (c .before .before .before .pre .2))
 
--- src/preds.rt:55:17
 add-t10 : tie.Need-add-t10
 add-t10 c = search needs
 
--- src/preds.rt:43:1
 returns : tie.Need-returns
 returns c =
     let s = c .before .before .before .before in

@@ -13,15 +13,12 @@ use Rattle.tracing.proofs.preds.pred_of.Reads as reads
 use Rattle.tracing.proofs.preds.pred_of.Lts as lts
 use Rattle.workspace.proofs.layout.load.Reads as load-reads
 
--- src/preds.rt:22:13
 load-requires : tie.Need-load-requires
 load-requires c κs = search needs
 
--- src/preds.rt:23:9
 returns : tie.Need-returns
 returns c = ap (λ (x : Vertex). x .pred) (c .load .ensures .0)
 
--- src/preds.rt:16:1
 returns-2 : tie.Need-returns-2
 unfolding noPred
 returns-2 c =

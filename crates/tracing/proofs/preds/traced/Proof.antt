@@ -15,34 +15,28 @@ Inv-loop work z start goal vertices t₀ t = Tracing z work start goal t
 abbrev μ-loop : tie.MeasureT-loop
 μ-loop work z start goal vertices t₀ t = z .vertices - t .length
 
--- src/preds.rt:71:5
 loop-holds : tie.Need-loop-holds Inv-loop μ-loop
 loop-holds c = tracing-none (c .before .args .z) (c .before .args .work .now) (c .before .args .start) (c .before .args .goal) (c .before .pre .1)
 
--- src/preds.rt:72:9
 back-requires : tie.Need-back-requires Inv-loop μ-loop
 back-requires c κs = (c .before .before .before .before .before .before .pre .0, c .before .before .if1 .taken, c .before .before .before .before .loop .inv .pays)
 
--- src/preds.rt:71:5
 loop-less : tie.Need-loop-less Inv-loop μ-loop
 loop-less c =
     omega (arith, back-length _ _ _ _ (c .back .ensures .0), c .before .before .before .if1 .taken)
 
--- src/preds.rt:71:5
 loop-again : tie.Need-loop-again Inv-loop μ-loop
 loop-again c =
     let s = c .before .before .before .before .before .before .before .args in
     let l = c .before .before .before .before .before .loop in
     tracing-more (s .z) (s .work .now) (s .start) (s .goal) (l .t) (l .inv) _ (c .before .before .before .if1 .taken) (eqb-false _ _ (not-true _ (c .before .if2 .taken))) (c .back .ensures .0) (c .back .ensures .1)
 
--- src/preds.rt:61:1
 returns : tie.Need-returns Inv-loop μ-loop
 returns c =
     let s = c .before .before .before .before .before .before .args in
     let l = c .before .before .before .before .loop in
     tracing-start (s .z) (s .work .now) (s .start) (s .goal) (l .t) (l .inv) (eqb-true _ _ (not-false _ (c .if2 .left)))
 
--- src/preds.rt:61:1
 returns-2 : tie.Need-returns-2 Inv-loop μ-loop
 returns-2 c =
     let s = c .before .before .before .before .args in

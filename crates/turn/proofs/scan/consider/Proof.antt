@@ -11,31 +11,24 @@ use Rattle.vertices.proofs.offered.Reads as offered-reads
 use Rattle.rules.proofs.Lead.better.Reads as better-reads
 use Rattle.workspace.proofs.layout.load.Reads as load-reads
 
--- src/scan.rt:20:13
 mul-h : tie.Need-mul-h
 mul-h c = search needs
 
--- src/scan.rt:20:13
 shared-slice-read-h : tie.Need-shared-slice-read-h
 shared-slice-read-h c = search needs
 
--- src/scan.rt:21:9
 load-requires : tie.Need-load-requires
 load-requires c κs = search needs
 
--- src/scan.rt:22:8
 offered-requires : tie.Need-offered-requires
 offered-requires c κs = search needs
 
--- src/scan.rt:23:28
 key-requires : tie.Need-key-requires
 key-requires c κs = search needs
 
--- src/scan.rt:23:9
 better-requires : tie.Need-better-requires
 better-requires c κs = search needs
 
--- src/scan.rt:23:9
 returns : tie.Need-returns
 returns c =
     let s = c .before .before .before .before .before .before .before .before in
@@ -44,7 +37,6 @@ returns c =
     let k = rw x at (c .before .key .ensures .0) in
     offered-taken _ _ _ _ _ (s .pre .4) _ o (rw k at (c .before .key .ensures .1)) (s .pre .1) (rw k at (c .better .ensures))
 
--- src/scan.rt:16:1
 returns-2 : tie.Need-returns-2
 returns-2 c =
     let s = c .before .before .before .before .before .before in

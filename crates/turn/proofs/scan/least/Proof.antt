@@ -17,39 +17,31 @@ Inv-loop work numbers z i w1 vertices lead₀ s₀ lead s = Scanned z work numbe
 abbrev μ-loop : tie.MeasureT-loop
 μ-loop work numbers z i w1 vertices lead₀ s₀ lead s = vertices - s
 
--- src/scan.rt:34:9
 none-requires : tie.Need-none-requires Inv-loop μ-loop
 none-requires c κs = search needs
 
--- src/scan.rt:36:5
 loop-holds : tie.Need-loop-holds Inv-loop μ-loop
 loop-holds c = scanned-none _ _ _ _ _ _ (c .none .ensures)
 
--- src/scan.rt:37:9
 consider-requires : tie.Need-consider-requires Inv-loop μ-loop
 consider-requires c κs =
     let s = c .before .before .before .before .before in
     (s .pre .0, c .loop-test .taken, s .pre .1, s .pre .2, c .before .loop .inv .fits)
 
--- src/scan.rt:38:9
 add-s : tie.Need-add-s Inv-loop μ-loop
 add-s c = search needs
 
--- src/scan.rt:36:5
 loop-less : tie.Need-loop-less Inv-loop μ-loop
 loop-less c = search needs
 
--- src/scan.rt:36:5
 loop-again : tie.Need-loop-again Inv-loop μ-loop
 loop-again c =
     let l = c .before .before .loop in
     scanned-next _ _ _ _ _ (l .s) _ (l .inv) _ (c .before .loop-test .taken) (c .consider .ensures .0) (c .consider .ensures .1)
 
--- src/scan.rt:40:5
 best-requires : tie.Need-best-requires Inv-loop μ-loop
 best-requires c κs = search needs
 
--- src/scan.rt:29:1
 returns : tie.Need-returns Inv-loop μ-loop
 returns c =
     let l = c .before .before .loop in

@@ -7,57 +7,44 @@ use Rattle.workspace.proofs.layout.edge.Tie as tie
 use Rattle.workspace.proofs.layout.edge.Reads as reads
 use Rattle.workspace.proofs.layout.edge.Lts as lts
 
--- src/layout.rt:74:14
 cast-h : tie.Need-cast-h
 cast-h c = search needs
 
--- src/layout.rt:74:13
 add-h : tie.Need-add-h
 add-h c = search needs
 
--- src/layout.rt:74:13
 add-h-2 : tie.Need-add-h-2
 add-h-2 c = search needs
 
--- src/layout.rt:75:14
 cast-c : tie.Need-cast-c
 cast-c c = search needs
 
--- src/layout.rt:75:13
 add-c : tie.Need-add-c
 add-c c = search needs
 
--- src/layout.rt:75:40
 cast-c-2 : tie.Need-cast-c-2
 cast-c-2 c = search needs
 
--- src/layout.rt:75:13
 add-c-2 : tie.Need-add-c-2
 add-c-2 c = search needs
 
--- src/layout.rt:75:13
 add-c-3 : tie.Need-add-c-3
 add-c-3 c = search needs
 
--- src/layout.rt:76:16
 mul-head : tie.Need-mul-head
 mul-head c = search needs
 
--- src/layout.rt:76:16
 shared-slice-read-head : tie.Need-shared-slice-read-head
 unfolding base
 shared-slice-read-head c = omega arith
 
--- src/layout.rt:77:16
 mul-cost : tie.Need-mul-cost
 mul-cost c = search needs
 
--- src/layout.rt:77:16
 shared-slice-read-cost : tie.Need-shared-slice-read-cost
 unfolding base
 shared-slice-read-cost c = omega arith
 
--- src/layout.rt:68:1
 returns : tie.Need-returns
 unfolding edgeAt
 returns c = search needs

@@ -7,16 +7,13 @@ use Rattle.workspace.proofs.layout.first_edge.Tie as tie
 use Rattle.workspace.proofs.layout.first_edge.Reads as reads
 use Rattle.workspace.proofs.layout.first_edge.Lts as lts
 
--- src/layout.rt:64:5
 mul-result : tie.Need-mul-result
 mul-result c = search needs
 
--- src/layout.rt:64:5
 shared-slice-read-result : tie.Need-shared-slice-read-result
 unfolding base
 shared-slice-read-result c = omega arith
 
--- src/layout.rt:60:1
 returns : tie.Need-returns
 unfolding firstOf
 returns c = search needs

@@ -12,87 +12,66 @@ use Rattle.workspace.proofs.layout.load.Lts as lts
 use Rattle.workspace.proofs.words.base.Reads as base-reads
 use Rattle.workspace.proofs.words.has_mark.Reads as has-mark-reads
 
--- src/layout.rt:17:13
 base-requires : tie.Need-base-requires
 base-requires c κs = search needs
 
--- src/layout.rt:17:30
 mul-o : tie.Need-mul-o
 mul-o c = search needs
 
--- src/layout.rt:17:13
 add-o : tie.Need-add-o
 add-o c = search needs
 
--- src/layout.rt:18:13
 mul-g : tie.Need-mul-g
 mul-g c = search needs
 
--- src/layout.rt:18:13
 shared-slice-read-g : tie.Need-shared-slice-read-g
 shared-slice-read-g c = search needs
 
--- src/layout.rt:19:18
 add-v : tie.Need-add-v
 add-v c = search needs
 
--- src/layout.rt:19:13
 mul-v : tie.Need-mul-v
 mul-v c = search needs
 
--- src/layout.rt:19:13
 shared-slice-read-v : tie.Need-shared-slice-read-v
 shared-slice-read-v c = search needs
 
--- src/layout.rt:20:21
 add-pred : tie.Need-add-pred
 add-pred c = search needs
 
--- src/layout.rt:20:16
 mul-pred : tie.Need-mul-pred
 mul-pred c = search needs
 
--- src/layout.rt:20:16
 shared-slice-read-pred : tie.Need-shared-slice-read-pred
 shared-slice-read-pred c = search needs
 
--- src/layout.rt:21:22
 add-marks : tie.Need-add-marks
 add-marks c = search needs
 
--- src/layout.rt:21:17
 mul-marks : tie.Need-mul-marks
 mul-marks c = search needs
 
--- src/layout.rt:21:17
 shared-slice-read-marks : tie.Need-shared-slice-read-marks
 shared-slice-read-marks c = search needs
 
--- src/layout.rt:23:12
 cast-t17 : tie.Need-cast-t17
 cast-t17 c = omega (arith, c .shared-slice-known5 .given (c .before .before .before .before .base .result + 4 * c .before .before .before .before .before .before .args .p))
 
--- src/layout.rt:24:12
 cast-t18 : tie.Need-cast-t18
 cast-t18 c = omega (arith, c .shared-slice-known5 .given (c .before .before .before .before .base .result + 4 * c .before .before .before .before .before .before .args .p + 1))
 
--- src/layout.rt:26:15
 has-mark-requires : tie.Need-has-mark-requires
 has-mark-requires c κs = search needs
 
--- src/layout.rt:27:17
 has-mark-requires-2 : tie.Need-has-mark-requires-2
 has-mark-requires-2 c κs = search needs
 
--- src/layout.rt:28:17
 has-mark-requires-3 : tie.Need-has-mark-requires-3
 has-mark-requires-3 c κs = search needs
 
--- src/layout.rt:29:17
 has-mark-requires-4 : tie.Need-has-mark-requires-4
 has-mark-requires-4 c κs = search needs
 
--- src/layout.rt:13:1
 returns : tie.Need-returns
 unfolding vertexAt
 returns c =

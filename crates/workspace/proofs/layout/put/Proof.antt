@@ -11,103 +11,78 @@ use Rattle.workspace.proofs.layout.put.Lts as lts
 use Rattle.workspace.proofs.words.base.Reads as base-reads
 use Rattle.workspace.proofs.words.mark.Reads as mark-reads
 
--- src/layout.rt:38:13
 base-requires : tie.Need-base-requires
 base-requires c κs = search needs
 
--- src/layout.rt:38:30
 mul-o : tie.Need-mul-o
 mul-o c = search needs
 
--- src/layout.rt:38:13
 add-o : tie.Need-add-o
 add-o c = search needs
 
--- src/layout.rt:39:17
 mark-requires : tie.Need-mark-requires
 mark-requires c κs = search needs
 
--- src/layout.rt:40:11
 mark-requires-2 : tie.Need-mark-requires-2
 mark-requires-2 c κs = search needs
 
--- src/layout.rt:39:17
 add-marks : tie.Need-add-marks
 add-marks c = search needs
 
--- src/layout.rt:41:11
 mark-requires-3 : tie.Need-mark-requires-3
 mark-requires-3 c κs = search needs
 
--- src/layout.rt:39:17
 add-marks-2 : tie.Need-add-marks-2
 add-marks-2 c = search needs
 
--- src/layout.rt:42:11
 mark-requires-4 : tie.Need-mark-requires-4
 mark-requires-4 c κs = search needs
 
--- src/layout.rt:39:17
 add-marks-3 : tie.Need-add-marks-3
 add-marks-3 c = search needs
 
--- src/layout.rt:45:15
 cast-work : tie.Need-cast-work
 cast-work c = search needs
 
--- src/layout.rt:45:5
 mul-work : tie.Need-mul-work
 mul-work c = search needs
 
--- src/layout.rt:45:5
 slice-write-work : tie.Need-slice-write-work
 slice-write-work c = search needs
 
--- src/layout.rt:46:19
 cast-work-2 : tie.Need-cast-work-2
 cast-work-2 c = search needs
 
--- src/layout.rt:46:10
 add-work : tie.Need-add-work
 add-work c = search needs
 
--- src/layout.rt:46:5
 mul-work-2 : tie.Need-mul-work-2
 mul-work-2 c = search needs
 
--- src/layout.rt:46:5
 slice-write-work-2 : tie.Need-slice-write-work-2
 slice-write-work-2 c = simp length-set (omega arith)
 
--- src/layout.rt:47:10
 add-work-2 : tie.Need-add-work-2
 add-work-2 c = search needs
 
--- src/layout.rt:47:5
 mul-work-3 : tie.Need-mul-work-3
 mul-work-3 c = search needs
 
--- src/layout.rt:47:5
 slice-write-work-3 : tie.Need-slice-write-work-3
 slice-write-work-3 c = simp length-set (omega arith)
 
--- src/layout.rt:48:10
 add-work-3 : tie.Need-add-work-3
 add-work-3 c = search needs
 
--- src/layout.rt:48:5
 mul-work-4 : tie.Need-mul-work-4
 mul-work-4 c = search needs
 
--- src/layout.rt:48:5
 slice-write-work-4 : tie.Need-slice-write-work-4
 slice-write-work-4 c = simp length-set (omega arith)
 
--- src/layout.rt:34:1
 same-length : tie.Need-same-length
 same-length c = search needs
 
--- src/layout.rt:34:1
 returns : tie.Need-returns
 unfolding withVertex markWord
 returns c = rw (c .before .before .before .mark .ensures .0, c .before .before .mark2 .ensures .0, c .before .mark3 .ensures .0, c .mark4 .ensures .0, c .before .before .before .before .base .ensures)

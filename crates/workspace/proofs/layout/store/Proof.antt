@@ -8,15 +8,12 @@ use Rattle.workspace.proofs.layout.store.Reads as reads
 use Rattle.workspace.proofs.layout.store.Lts as lts
 use Rattle.workspace.proofs.layout.put.Reads as put-reads
 
--- src/layout.rt:56:5
 put-requires : tie.Need-put-requires
 put-requires c κs = search needs
 
--- src/layout.rt:52:1
 same-length : tie.Need-same-length
 same-length c = search needs
 
--- src/layout.rt:52:1
 returns : tie.Need-returns
 returns c =
     let s = c .before .before .before .before .before in

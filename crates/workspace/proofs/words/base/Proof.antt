@@ -6,27 +6,21 @@ use Rattle.workspace.proofs.words.base.Tie as tie
 use Rattle.workspace.proofs.words.base.Reads as reads
 use Rattle.workspace.proofs.words.base.Lts as lts
 
--- src/words.rt:29:6
 cast-result : tie.Need-cast-result
 cast-result c = search needs
 
--- src/words.rt:29:5
 add-result : tie.Need-add-result
 add-result c = search needs
 
--- src/words.rt:29:36
 cast-result-2 : tie.Need-cast-result-2
 cast-result-2 c = search needs
 
--- src/words.rt:29:31
 mul-result : tie.Need-mul-result
 mul-result c = search needs
 
--- src/words.rt:29:5
 add-result-2 : tie.Need-add-result-2
 add-result-2 c = search needs
 
--- src/words.rt:24:1
 returns : tie.Need-returns
 unfolding base
 returns c = search needs
