@@ -14,11 +14,11 @@ pub fn put_end_line(
     requires { ⌜ Counted at (endLine cost rounds turns bound) ⌝ }
     ensures { λ r. ⌜ Put at (endLine cost rounds turns bound) (now (out .entry)) r (now (out .exit)) ⌝ }
 {
-    let a = text::put_field(out, at, b"end cost ", cost);
-    let b = text::put_field(out, a, b" rounds ", rounds);
-    let c = text::put_field(out, b, b" turns ", turns);
-    let d = text::put_field(out, c, b" bound ", bound);
-    text::put_byte(out, d, b'\n')
+    let a = buffer::put_field(out, at, b"end cost ", cost);
+    let b = buffer::put_field(out, a, b" rounds ", rounds);
+    let c = buffer::put_field(out, b, b" turns ", turns);
+    let d = buffer::put_field(out, c, b" bound ", bound);
+    buffer::put_byte(out, d, b'\n')
 }
 
 // The end of a search where there is no route.
@@ -26,8 +26,8 @@ pub fn put_no_route_line(out: &mut [u8], at: usize, turns: u64) -> usize
     requires { ⌜ Counted at (noRouteLine turns) ⌝ }
     ensures { λ r. ⌜ Put at (noRouteLine turns) (now (out .entry)) r (now (out .exit)) ⌝ }
 {
-    let end = text::put_field(out, at, b"no route turns ", turns);
-    text::put_byte(out, end, b'\n')
+    let end = buffer::put_field(out, at, b"no route turns ", turns);
+    buffer::put_byte(out, end, b'\n')
 }
 
 // The end of a search whose budget was spent in the first round.
@@ -35,8 +35,8 @@ pub fn put_unfinished_line(out: &mut [u8], at: usize, turns: u64) -> usize
     requires { ⌜ Counted at (unfinishedLine turns) ⌝ }
     ensures { λ r. ⌜ Put at (unfinishedLine turns) (now (out .entry)) r (now (out .exit)) ⌝ }
 {
-    let end = text::put_field(out, at, b"unfinished turns ", turns);
-    text::put_byte(out, end, b'\n')
+    let end = buffer::put_field(out, at, b"unfinished turns ", turns);
+    buffer::put_byte(out, end, b'\n')
 }
 
 // A refusal: its number and its position.
@@ -44,7 +44,7 @@ pub fn put_refused_line(out: &mut [u8], at: usize, number: u64, position: u64) -
     requires { ⌜ Counted at (refusedLine number position) ⌝ }
     ensures { λ r. ⌜ Put at (refusedLine number position) (now (out .entry)) r (now (out .exit)) ⌝ }
 {
-    let word = text::put_field(out, at, b"refused ", number);
-    let end = text::put_field(out, word, b" at ", position);
-    text::put_byte(out, end, b'\n')
+    let word = buffer::put_field(out, at, b"refused ", number);
+    let end = buffer::put_field(out, word, b" at ", position);
+    buffer::put_byte(out, end, b'\n')
 }

@@ -10,10 +10,10 @@ pub fn put_turn_line(out: &mut [u8], at: usize, number: u64, heuristic: u64, ver
     requires { ⌜ Counted at (turnLine number heuristic vertex) ⌝ }
     ensures { λ r. ⌜ Put at (turnLine number heuristic vertex) (now (out .entry)) r (now (out .exit)) ⌝ }
 {
-    let turn = text::put_field(out, at, b"turn ", number);
-    let table = text::put_field(out, turn, b" table ", heuristic);
-    let place = text::put_field(out, table, b" place ", vertex);
-    text::put_byte(out, place, b'\n')
+    let turn = buffer::put_field(out, at, b"turn ", number);
+    let table = buffer::put_field(out, turn, b" table ", heuristic);
+    let place = buffer::put_field(out, table, b" place ", vertex);
+    buffer::put_byte(out, place, b'\n')
 }
 
 // The turns that a log shows: its first so many words, or all that there are.
@@ -45,9 +45,9 @@ pub fn put_route_line(out: &mut [u8], at: usize, route: &[u32], count: usize) ->
     requires { ⌜ Counted at (routeLine (take count (now route))) ⌝ }
     ensures { λ r. ⌜ Put at (routeLine (take count (now (route .entry)))) (now (out .entry)) r (now (out .exit)) ⌝ }
 {
-    let word = text::put_word(out, at, b"route");
+    let word = buffer::put_word(out, at, b"route");
     let end = put_vertices(out, word, route, count);
-    text::put_byte(out, end, b'\n')
+    buffer::put_byte(out, end, b'\n')
 }
 
 // The vertices of a route, each after a space.
@@ -70,7 +70,7 @@ fn put_vertex(out: &mut [u8], at: usize, vertex: u32) -> usize
     requires { ⌜ Counted at (field (ascii " ") vertex) ⌝ }
     ensures { λ r. ⌜ Put at (field (ascii " ") vertex) (now (out .entry)) r (now (out .exit)) ⌝ }
 {
-    text::put_field(out, at, b" ", vertex as u64)
+    buffer::put_field(out, at, b" ", vertex as u64)
 }
 
 // The lesser of two numbers.

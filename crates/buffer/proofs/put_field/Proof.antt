@@ -1,10 +1,10 @@
 -- `put_field` meets its contract: the word, and after it the number. Assumes nothing.
 use native.Mathlib.Omega.{arith}
 use lib.ListN.{length-append}
 use Rattle.text.specs.Text.{field}
 use Rattle.text.proofs.Laid.{put-length, then-put}
-use Rattle.text.proofs.put_field.Statement.{statement}
-use Rattle.text.proofs.put_field.Tie as tie
+use Rattle.buffer.proofs.put_field.Statement.{statement}
+use Rattle.buffer.proofs.put_field.Tie as tie
 
 put-word-requires : tie.Need-put-word-requires
 unfolding field

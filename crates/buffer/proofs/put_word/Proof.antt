@@ -4,10 +4,10 @@ use native.Mathlib.Omega.{arith}
 use lib.ListN.{length, take}
 use lib.Seq.{length-take-le}
 use borrow.Author.Needs.{needs}
 use Rattle.text.specs.Laid.{Put}
 use Rattle.text.proofs.Laid.{put-nil, put-length, next-put, all-put}
-use Rattle.text.proofs.put_word.Statement.{statement}
-use Rattle.text.proofs.put_word.Tie as tie
+use Rattle.buffer.proofs.put_word.Statement.{statement}
+use Rattle.buffer.proofs.put_word.Tie as tie
 
 abbrev Inv-loop : tie.InvT-loop
 Inv-loop out₀ at word next₀ i₀ out next i = Put at (take i word) out₀ next out × (i ≤ length word)

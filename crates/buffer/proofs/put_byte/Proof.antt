@@ -3,12 +3,12 @@ use mathlib.Core.Path.{_≡_, sym, ap, _∙_}
 use mathlib.Core.Logic.{⊎-elim}
 use lib.ListN.{length, set, length-set}
 use lib.Seq.{set-out}
 use Rattle.text.specs.Laid.{laid}
 use borrow.Author.Needs.{needs}
-use Rattle.text.proofs.put_byte.Statement.{statement}
-use Rattle.text.proofs.put_byte.Tie as tie
-use Rattle.text.proofs.put_byte.Reads as reads
-use Rattle.text.proofs.put_byte.Lts as lts
+use Rattle.buffer.proofs.put_byte.Statement.{statement}
+use Rattle.buffer.proofs.put_byte.Tie as tie
+use Rattle.buffer.proofs.put_byte.Reads as reads
+use Rattle.buffer.proofs.put_byte.Lts as lts
 
 slice-write-out : tie.Need-slice-write-out
 slice-write-out c = search needs

@@ -2,16 +2,16 @@
 use Prim.Native.Nat.{ℕ, _<_}
 use native.Mathlib.Omega.{arith}
 use borrow.Author.Needs.{needs}
 use Rattle.text.proofs.Laid.{put-length}
 use Rattle.text.proofs.Digits.{one-counted, one-put, front-counted, last-counted, last-put}
 use borrow.Fn.Kinds.{In}
 use borrow.Fn.PlainCycle.{Measures, is, falls, and}
-use Rattle.text.proofs.put_number.Reads as put-number
-use Rattle.text.proofs.put_number.Kinds as put-number-kinds
-use Rattle.text.proofs.+put_number.Lts-put_number as put-number-lts
-use Rattle.text.proofs.put_byte.Reads as put-byte-reads
-use Rattle.text.proofs.+put_number.{statement}
-use Rattle.text.proofs.+put_number.Tie.{close}
+use Rattle.buffer.proofs.put_number.Reads as put-number
+use Rattle.buffer.proofs.put_number.Kinds as put-number-kinds
+use Rattle.buffer.proofs.+put_number.Lts-put_number as put-number-lts
+use Rattle.buffer.proofs.put_byte.Reads as put-byte-reads
+use Rattle.buffer.proofs.+put_number.{statement}
+use Rattle.buffer.proofs.+put_number.Tie.{close}
 
 abbrev μ-put-number : Measures 1 put-number-kinds.ps ℕ
 μ-put-number κs a = a .1 .1 .0
