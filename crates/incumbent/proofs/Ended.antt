@@ -24,7 +24,7 @@ use Rattle.workspace.specs.declared.Size.{Size}
 use Rattle.workspace.specs.Layout.{verticesOf, graphOf}
 use Rattle.tracing.specs.Trace.{tracedIn, tracedCost}
 use Rattle.incumbent.specs.Kept.{keptCost, keptRoute}
-use Rattle.incumbent.proofs.Laid.{tracedIn-most}
+use Rattle.laying.proofs.Laid.{tracedIn-most}
 
 -- ---- whether it becomes the incumbent
 

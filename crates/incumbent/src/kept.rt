@@ -10,7 +10,7 @@ pub fn route_length(route: &[u32], v: u32) -> u32
     ensures { λ r. ⌜ r ≡ length (upToEnd (take v (now (route .entry)))) ⌝ }
 {
     let mut n: u32 = 0;
-    while n < v && route[n as usize] != crate::ROUTE_END {
+    while n < v && route[n as usize] != laying::ROUTE_END {
         n += 1;
     }
     n

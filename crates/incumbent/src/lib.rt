@@ -1,6 +1,5 @@
 // What a finished round does to the incumbent (the kept route) and to route memory.
 pub mod kept;
-mod laying;
 
 ghost use mathlib.Core.Path.{_≡_};
 ghost use Prim.Native.Nat.{_<_, _≤_};
@@ -14,9 +13,6 @@ use search::Progress;
 use search::RouteCost;
 use tracing::preds;
 use workspace::Size;
-
-// In route memory: the word after the incumbent's last vertex, and those after it up to V words.
-pub const ROUTE_END: u32 = 4294967295;
 
 // Whether a route of the cost c becomes the incumbent: none is kept yet, or it is strictly cheaper.
 fn improves(c: u64, p: Progress) -> bool

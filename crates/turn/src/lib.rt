@@ -1,6 +1,4 @@
-// One turn over work memory: the least keys, step 1, step 3, and the turn with its log word.
-mod scan;
-
+// One turn over work memory: step 1, step 3, and the turn with its log word.
 ghost use mathlib.Core.Path.{_≡_};
 ghost use Prim.Native.Nat.{_*_, _<_, _≤_};
 ghost use lib.ListN.{length, set};

@@ -11,7 +11,7 @@ use Rattle.incumbent.proofs.keep.Tie as tie
 use Rattle.incumbent.proofs.keep.Reads as reads
 use Rattle.incumbent.proofs.keep.Lts as lts
 use Rattle.incumbent.proofs.improves.Reads as improves-reads
-use Rattle.incumbent.proofs.laying.lay.Reads as lay-reads
+use Rattle.laying.proofs.lay.Reads as lay-reads
 use Rattle.tracing.proofs.preds.traced.Reads as traced-reads
 
 traced-requires : tie.Need-traced-requires

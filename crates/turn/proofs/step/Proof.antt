@@ -5,7 +5,7 @@ use Rattle.turn.proofs.step.Statement.{statement}
 use Rattle.turn.proofs.step.Tie as tie
 use Rattle.turn.proofs.step.Reads as reads
 use Rattle.turn.proofs.step.Lts as lts
-use Rattle.turn.proofs.scan.least.Reads as least-reads
+use Rattle.scan.proofs.least.Reads as least-reads
 use Rattle.rules.proofs.step_one.Reads as step-one-reads
 use Rattle.workspace.proofs.layout.load.Reads as load-reads
 

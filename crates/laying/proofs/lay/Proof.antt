@@ -1,13 +1,13 @@
 -- `lay` meets its contract. Assumes nothing.
 use native.Mathlib.Omega.{arith}
-use Rattle.incumbent.proofs.Laid.{tracedIn-most, laid-whole}
+use Rattle.laying.proofs.Laid.{tracedIn-most, laid-whole}
 use borrow.Author.Needs.{needs}
-use Rattle.incumbent.proofs.laying.lay.Statement.{statement}
-use Rattle.incumbent.proofs.laying.lay.Tie as tie
-use Rattle.incumbent.proofs.laying.lay.Reads as reads
-use Rattle.incumbent.proofs.laying.lay.Lts as lts
-use Rattle.incumbent.proofs.laying.fill.Reads as fill-reads
-use Rattle.incumbent.proofs.laying.put_all.Reads as put-all-reads
+use Rattle.laying.proofs.lay.Statement.{statement}
+use Rattle.laying.proofs.lay.Tie as tie
+use Rattle.laying.proofs.lay.Reads as reads
+use Rattle.laying.proofs.lay.Lts as lts
+use Rattle.laying.proofs.fill.Reads as fill-reads
+use Rattle.laying.proofs.put_all.Reads as put-all-reads
 
 put-all-requires : tie.Need-put-all-requires
 put-all-requires c κs =

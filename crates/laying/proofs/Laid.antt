@@ -17,7 +17,7 @@ use Rattle.workspace.specs.declared.Size.{Size}
 use Rattle.workspace.specs.Layout.{verticesOf}
 use Rattle.tracing.specs.Trace.{tracedIn}
 use Rattle.tracing.proofs.Traces.{trace-stop, trace-go, trace-none}
-use Rattle.incumbent.specs.Steps.{backs}
+use Rattle.laying.specs.Steps.{backs}
 
 -- ---- predecessors by their number
 

@@ -1,4 +1,4 @@
-// The trace of predecessors laid into route memory.
+// A traced route laid into route memory, and its fill words.
 ghost use mathlib.Core.Path.{_≡_};
 ghost use mathlib.Core.List.{[]};
 ghost use Prim.Native.Nat.{_-_, _<_, _≤_};
@@ -9,9 +9,12 @@ ghost use Rattle.search.specs.Job.{at, routeEnd};
 ghost use Rattle.search.specs.Outcome.{routeWords};
 ghost use Rattle.workspace.specs.Layout.{Room, verticesOf};
 ghost use Rattle.tracing.specs.Trace.{tracedIn};
-ghost use Rattle.incumbent.specs.Steps.{backs};
+ghost use Rattle.laying.specs.Steps.{backs};
 use tracing::preds;
 use workspace::Size;
+
+// In route memory: the word after the incumbent's last vertex, and those after it up to V words.
+pub const ROUTE_END: u32 = 4294967295;
 
 // Word i of the route becomes x. The predecessor of x.
 fn put(work: &[u32], route: &mut [u32], z: Size, i: u32, x: u32) -> u32
@@ -43,7 +46,7 @@ fn fill(route: &mut [u32], n: u32, v: u32)
 {
     let mut i = n;
     while i < v {
-        route[i as usize] = crate::ROUTE_END;
+        route[i as usize] = ROUTE_END;
         i += 1;
     }
 }

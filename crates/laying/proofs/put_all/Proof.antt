@@ -2,12 +2,12 @@
 use native.Mathlib.Omega.{arith}
 use borrow.Author.Needs.{needs}
 use Rattle.workspace.specs.Layout.{verticesOf}
-use Rattle.incumbent.proofs.Laid.{Laying, laying-none, laying-more, laying-all}
-use Rattle.incumbent.proofs.laying.put_all.Statement.{statement}
-use Rattle.incumbent.proofs.laying.put_all.Tie as tie
-use Rattle.incumbent.proofs.laying.put_all.Reads as reads
-use Rattle.incumbent.proofs.laying.put_all.Lts as lts
-use Rattle.incumbent.proofs.laying.put.Reads as put-reads
+use Rattle.laying.proofs.Laid.{Laying, laying-none, laying-more, laying-all}
+use Rattle.laying.proofs.put_all.Statement.{statement}
+use Rattle.laying.proofs.put_all.Tie as tie
+use Rattle.laying.proofs.put_all.Reads as reads
+use Rattle.laying.proofs.put_all.Lts as lts
+use Rattle.laying.proofs.put.Reads as put-reads
 
 abbrev Inv-loop : tie.InvT-loop
 Inv-loop work route₀ z goal n i₀ x₀ route i x = Laying (verticesOf z work) n goal route₀ route i x

@@ -1,11 +1,11 @@
 -- `consider` meets its contract. Assumes nothing.
 use mathlib.Core.Path.{sym, _∙_}
-use Rattle.turn.proofs.Keys.{offered-taken, offered-left}
+use Rattle.scan.proofs.Scanning.{offered-taken, offered-left}
 use borrow.Author.Needs.{needs}
-use Rattle.turn.proofs.scan.consider.Statement.{statement}
-use Rattle.turn.proofs.scan.consider.Tie as tie
-use Rattle.turn.proofs.scan.consider.Reads as reads
-use Rattle.turn.proofs.scan.consider.Lts as lts
+use Rattle.scan.proofs.consider.Statement.{statement}
+use Rattle.scan.proofs.consider.Tie as tie
+use Rattle.scan.proofs.consider.Reads as reads
+use Rattle.scan.proofs.consider.Lts as lts
 use Rattle.vertices.proofs.key.Reads as key-reads
 use Rattle.vertices.proofs.offered.Reads as offered-reads
 use Rattle.rules.proofs.Lead.better.Reads as better-reads

@@ -1,4 +1,4 @@
-// The least key of a heuristic over all vertices.
+// The least key of a heuristic over the vertices of work memory.
 ghost use mathlib.Core.Path.{_≡_};
 ghost use Prim.Native.Nat.{_<_, _≤_};
 ghost use lib.ListN.{length, getD};

@@ -1,13 +1,13 @@
 -- `least` meets its contract: the best of the first s vertices, and of all. Assumes nothing.
 use Prim.Native.Nat.{_-_}
 use Rattle.rules.specs.Lead.{bestOf}
-use Rattle.turn.proofs.Keys.{Scanned, scanned-none, scanned-next, scanned-all}
+use Rattle.scan.proofs.Scanning.{Scanned, scanned-none, scanned-next, scanned-all}
 use borrow.Author.Needs.{needs}
-use Rattle.turn.proofs.scan.least.Statement.{statement}
-use Rattle.turn.proofs.scan.least.Tie as tie
-use Rattle.turn.proofs.scan.least.Reads as reads
-use Rattle.turn.proofs.scan.least.Lts as lts
-use Rattle.turn.proofs.scan.consider.Reads as consider-reads
+use Rattle.scan.proofs.least.Statement.{statement}
+use Rattle.scan.proofs.least.Tie as tie
+use Rattle.scan.proofs.least.Reads as reads
+use Rattle.scan.proofs.least.Lts as lts
+use Rattle.scan.proofs.consider.Reads as consider-reads
 use Rattle.rules.proofs.Lead.best.Reads as best-reads
 use Rattle.rules.proofs.Lead.none.Reads as none-reads
 

@@ -5,11 +5,11 @@ use lib.ListN.{length, length-set, replicate}
 use lib.Seq.{sets}
 use borrow.Author.Needs.{needs}
 use Rattle.search.specs.Job.{routeEnd}
-use Rattle.incumbent.proofs.Laid.{fill-more, fill-done}
-use Rattle.incumbent.proofs.laying.fill.Statement.{statement}
-use Rattle.incumbent.proofs.laying.fill.Tie as tie
-use Rattle.incumbent.proofs.laying.fill.Reads as reads
-use Rattle.incumbent.proofs.laying.fill.Lts as lts
+use Rattle.laying.proofs.Laid.{fill-more, fill-done}
+use Rattle.laying.proofs.fill.Statement.{statement}
+use Rattle.laying.proofs.fill.Tie as tie
+use Rattle.laying.proofs.fill.Reads as reads
+use Rattle.laying.proofs.fill.Lts as lts
 
 abbrev Inv-loop : tie.InvT-loop
 Inv-loop route₀ n v i₀ route i = (length route ≡ length route₀) × (sets route i (replicate (v - i) routeEnd) ≡ sets route₀ n (replicate (v - n) routeEnd))
