@@ -27,10 +27,10 @@ fn relax_all(work: &mut [u32], z: Size, s: u32, g: u64)
     requires { ⌜ Ready z (now work) × (s < z .vertices) × (g ≤ maxG) ⌝ }
     ensures { λ _. ⌜ now (work .exit) ≡ written z (relaxAll s g (graphOf z (now (work .entry))) (verticesOf z (now (work .entry)))) (now (work .entry)) ⌝ }
 {
-    let mut j = layout::first_edge(work, z, s);
-    let end = layout::first_edge(work, z, s + 1);
+    let mut j = edge_words::first_edge(work, z, s);
+    let end = edge_words::first_edge(work, z, s + 1);
     while j < end {
-        let e = layout::edge(work, z, s, j);
+        let e = edge_words::edge(work, z, s, j);
         relax(work, z, s, g, e);
         j += 1;
     }

@@ -7,7 +7,6 @@ ghost use Rattle.workspace.specs.Layout.{Room, edgeAt, graphOf, Ready};
 ghost use Rattle.tracing.specs.Steps.{orElse, maxWord, AtMost};
 use search::RouteCost;
 use workspace::Size;
-use workspace::layout;
 
 // Edge j of the vertex a, if it enters b and none is found yet.
 fn look(work: &[u32], z: Size, a: u32, b: u32, j: u32, found: RouteCost) -> RouteCost
@@ -17,7 +16,7 @@ fn look(work: &[u32], z: Size, a: u32, b: u32, j: u32, found: RouteCost) -> Rout
     let RouteCost::Broken = found else {
         return found;
     };
-    let e = layout::edge(work, z, a, j);
+    let e = edge_words::edge(work, z, a, j);
     if e.head == b {
         let cost = e.cost;
         return RouteCost::Cost(cost as u64);
@@ -35,8 +34,8 @@ pub fn edge_cost(work: &[u32], z: Size, a: u32, b: u32) -> RouteCost
     if vertices <= a {
         return found;
     }
-    let mut j = layout::first_edge(work, z, a);
-    let end = layout::first_edge(work, z, a + 1);
+    let mut j = edge_words::first_edge(work, z, a);
+    let end = edge_words::first_edge(work, z, a + 1);
     while j < end {
         found = look(work, z, a, b, j, found);
         j += 1;

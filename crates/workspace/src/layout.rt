@@ -1,12 +1,11 @@
-// Vertices loaded and stored; the first edge of a vertex, and an edge.
+// Vertices loaded and stored.
 ghost use mathlib.Core.Path.{_≡_};
-ghost use Prim.Native.Nat.{_+_, _*_, _<_, _≤_};
+ghost use Prim.Native.Nat.{_+_, _*_, _<_};
 ghost use lib.ListN.{set};
 ghost use Rattle.search.specs.Job.{at};
-ghost use Rattle.workspace.specs.Layout.{base, Room, verticesOf, written, withVertex, firstOf, edgeAt, Fits, Ready};
+ghost use Rattle.workspace.specs.Layout.{base, Room, verticesOf, written, withVertex, Fits, Ready};
 use crate::Size;
 use crate::words;
-use graph::Edge;
 use search::Vertex;
 
 // Vertex p.
@@ -54,30 +53,4 @@ pub fn store(work: &mut [u32], z: Size, p: u32, x: Vertex)
     ensures { λ _. ⌜ now (work .exit) ≡ written z (set (verticesOf z (now (work .entry))) p x) (now (work .entry)) ⌝ }
 {
     put(work, z, p, x);
-}
-
-// The number of the first edge of vertex t; for t = V the count of edges.
-pub fn first_edge(work: &[u32], z: Size, t: u32) -> u32
-    requires { ⌜ Room z (now work) × (t ≤ z .vertices) ⌝ }
-    ensures { λ r. ⌜ r ≡ firstOf (now (work .entry)) t ⌝ }
-{
-    work[t as usize]
-}
-
-// Edge j, of the tail t.
-pub fn edge(work: &[u32], z: Size, t: u32, j: u32) -> Edge
-    requires { ⌜ Room z (now work) × (j < z .edges) ⌝ }
-    ensures { λ r. ⌜ r ≡ edgeAt z (now (work .entry)) t j ⌝ }
-{
-    let vertices = z.vertices;
-    let edges = z.edges;
-    let h = (vertices as usize) + 1 + (j as usize);
-    let c = (vertices as usize) + 1 + (edges as usize) + (j as usize);
-    let head = work[h];
-    let cost = work[c];
-    Edge {
-        tail: t,
-        head,
-        cost,
-    }
 }

@@ -1,4 +1,4 @@
-// Work memory: where the graph and the vertices lie in lent words, read and written there.
+// Work memory: where the graph and the vertices lie in lent words; vertices read and written there.
 pub mod layout;
 mod words;
 

@@ -9,8 +9,8 @@ use Rattle.expansion.proofs.relax_all.Tie as tie
 use Rattle.expansion.proofs.relax_all.Reads as reads
 use Rattle.expansion.proofs.relax_all.Lts as lts
 use Rattle.expansion.proofs.relax.Reads as relax-reads
-use Rattle.workspace.proofs.layout.edge.Reads as edge-reads
-use Rattle.workspace.proofs.layout.first_edge.Reads as first-edge-reads
+use Rattle.edge_words.proofs.edge.Reads as edge-reads
+use Rattle.edge_words.proofs.first_edge.Reads as first-edge-reads
 
 abbrev Inv-loop : tie.InvT-loop
 Inv-loop work₀ z s g j₀ end work j = Tried z s g j₀ end work₀ work j

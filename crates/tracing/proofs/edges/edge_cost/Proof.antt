@@ -12,7 +12,7 @@ use Rattle.tracing.proofs.edges.edge_cost.Tie as tie
 use Rattle.tracing.proofs.edges.edge_cost.Reads as reads
 use Rattle.tracing.proofs.edges.edge_cost.Lts as lts
 use Rattle.tracing.proofs.edges.look.Reads as look-reads
-use Rattle.workspace.proofs.layout.first_edge.Reads as first-edge-reads
+use Rattle.edge_words.proofs.first_edge.Reads as first-edge-reads
 
 abbrev Inv-loop : tie.InvT-loop
 Inv-loop work z a b vertices found₀ j₀ end found j = Looking z work a b end j found × AtMost maxWord found

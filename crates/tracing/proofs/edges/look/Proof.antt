@@ -11,7 +11,7 @@ use Rattle.tracing.proofs.edges.look.Statement.{statement}
 use Rattle.tracing.proofs.edges.look.Tie as tie
 use Rattle.tracing.proofs.edges.look.Reads as reads
 use Rattle.tracing.proofs.edges.look.Lts as lts
-use Rattle.workspace.proofs.layout.edge.Reads as edge-reads
+use Rattle.edge_words.proofs.edge.Reads as edge-reads
 
 enum-told : tie.Need-enum-told
 enum-told c = search needs

@@ -1,11 +1,11 @@
 -- `first_edge` meets its contract. Assumes nothing.
 use native.Mathlib.Omega.{arith}
 use Rattle.workspace.specs.Layout.{base, firstOf}
 use borrow.Author.Needs.{needs}
-use Rattle.workspace.proofs.layout.first_edge.Statement.{statement}
-use Rattle.workspace.proofs.layout.first_edge.Tie as tie
-use Rattle.workspace.proofs.layout.first_edge.Reads as reads
-use Rattle.workspace.proofs.layout.first_edge.Lts as lts
+use Rattle.edge_words.proofs.first_edge.Statement.{statement}
+use Rattle.edge_words.proofs.first_edge.Tie as tie
+use Rattle.edge_words.proofs.first_edge.Reads as reads
+use Rattle.edge_words.proofs.first_edge.Lts as lts
 
 mul-result : tie.Need-mul-result
 mul-result c = search needs

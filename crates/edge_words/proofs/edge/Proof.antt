@@ -1,11 +1,11 @@
 -- `edge` meets its contract. Assumes nothing.
 use native.Mathlib.Omega.{arith}
 use Rattle.workspace.specs.Layout.{base, edgeAt}
 use borrow.Author.Needs.{needs}
-use Rattle.workspace.proofs.layout.edge.Statement.{statement}
-use Rattle.workspace.proofs.layout.edge.Tie as tie
-use Rattle.workspace.proofs.layout.edge.Reads as reads
-use Rattle.workspace.proofs.layout.edge.Lts as lts
+use Rattle.edge_words.proofs.edge.Statement.{statement}
+use Rattle.edge_words.proofs.edge.Tie as tie
+use Rattle.edge_words.proofs.edge.Reads as reads
+use Rattle.edge_words.proofs.edge.Lts as lts
 
 cast-h : tie.Need-cast-h
 cast-h c = search needs
