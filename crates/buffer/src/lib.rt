@@ -29,7 +29,7 @@ pub fn put_word(out: &mut [u8], at: usize, word: &[u8]) -> usize
 }
 
 // A number in decimal, without leading zeros.
-pub fn put_number(out: &mut [u8], at: usize, value: u64) -> usize
+fn put_number(out: &mut [u8], at: usize, value: u64) -> usize
     requires { ⌜ Counted at (digits value) ⌝ }
     ensures { λ r. ⌜ Put at (digits value) (now (out .entry)) r (now (out .exit)) ⌝ }
 {

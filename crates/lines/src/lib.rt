@@ -6,7 +6,7 @@ ghost use Rattle.text.specs.Laid.{Put, Counted};
 ghost use Rattle.text.specs.Text.{ascii, field, turnLine, loggedLine, turnLines, vertices, routeLine};
 
 // A turn: its number, its heuristic (table) and the vertex expanded.
-pub fn put_turn_line(out: &mut [u8], at: usize, number: u64, heuristic: u64, vertex: u64) -> usize
+fn put_turn_line(out: &mut [u8], at: usize, number: u64, heuristic: u64, vertex: u64) -> usize
     requires { ⌜ Counted at (turnLine number heuristic vertex) ⌝ }
     ensures { λ r. ⌜ Put at (turnLine number heuristic vertex) (now (out .entry)) r (now (out .exit)) ⌝ }
 {

@@ -2,16 +2,30 @@
 ghost use mathlib.Core.Path.{_≡_};
 ghost use mathlib.Core.Bool.{cond};
 ghost use Prim.Native.Nat.{_<_};
-ghost use Rattle.search.specs.Rounds.{turned, ended};
+ghost use Rattle.search.specs.Rounds.{firstTurn, nextTurn, turned, ended};
 ghost use Rattle.progress.specs.Moved.{firstProgress, turnAfter, counted, moved, maxCount};
 use search::Progress;
+
+// Whose turn it is at a round's beginning, of n inadmissible heuristics; 0 where there are none.
+fn first_turn(n: u32) -> u32
+    ensures { λ r. ⌜ r ≡ firstTurn n ⌝ }
+{
+    if n == 0 { 0 } else { 1 }
+}
+
+// Whose turn it is after one of heuristic i.
+fn next_turn(n: u32, i: u32) -> u32
+    ensures { λ r. ⌜ r ≡ nextTurn n i ⌝ }
+{
+    if i < n { i + 1 } else { first_turn(n) }
+}
 
 // The record at first.
 pub fn at_first(guides: u32) -> Progress
     ensures { λ r. ⌜ r ≡ firstProgress guides ⌝ }
 {
     Progress {
-        turn: rules::first_turn(guides),
+        turn: first_turn(guides),
         expansions: 0,
         rounds: 0,
         cost: 0,
@@ -23,9 +37,9 @@ fn turn_after(ends: bool, guides: u32, turn: u32) -> u32
     ensures { λ r. ⌜ r ≡ turnAfter ends guides turn ⌝ }
 {
     if ends {
-        return rules::first_turn(guides);
+        return first_turn(guides);
     }
-    rules::next_turn(guides, turn)
+    next_turn(guides, turn)
 }
 
 // A count, and one more where that is due.

@@ -1,16 +1,57 @@
 // The least key of a heuristic over the vertices of work memory.
 ghost use mathlib.Core.Path.{_≡_};
+ghost use mathlib.Core.Bool.{true};
 ghost use Prim.Native.Nat.{_<_, _≤_};
 ghost use lib.ListN.{length, getD};
+ghost use Rattle.search.specs.declared.Best.the-variants.{Nobody};
 ghost use Rattle.search.specs.Job.{at};
 ghost use Rattle.search.specs.Turn.{key, offered, better, least};
-ghost use Rattle.search.specs.Bounds.{maxFactor, Within};
-ghost use Rattle.rules.specs.Lead.{bestOf};
+ghost use Rattle.search.specs.Bounds.{maxFactor, maxKey, Within};
+ghost use Rattle.scan.specs.Lead.{bestOf};
 ghost use Rattle.workspace.specs.Layout.{Room, verticesOf};
-use rules::Lead;
 use search::Best;
 use workspace::Size;
 use workspace::layout;
+
+// The best of a scan so far, in two numbers: a key above all keys stands for nobody.
+struct Lead {
+    key: u64,
+    vertex: u32,
+}
+
+impl Lead {
+    const NO_KEY: u64 = 18446744073709551615;
+
+    fn none() -> Lead
+        ensures { λ r. ⌜ bestOf r ≡ Nobody ⌝ }
+    {
+        Lead {
+            key: Lead::NO_KEY,
+            vertex: 0,
+        }
+    }
+
+    // The better of it and vertex s with key k, which is offered.
+    fn better(self, k: u64, s: u32) -> Lead
+        requires { ⌜ k ≤ maxKey ⌝ }
+        ensures { λ r. ⌜ bestOf r ≡ better true k s (bestOf self) ⌝ }
+    {
+        if k < self.key {
+            return Lead { key: k, vertex: s };
+        }
+        self
+    }
+
+    fn best(self) -> Best
+        ensures { λ r. ⌜ r ≡ bestOf self ⌝ }
+    {
+        let key = self.key;
+        if key == Lead::NO_KEY {
+            return Best::Nobody;
+        }
+        Best::Found(key, self.vertex)
+    }
+}
 
 // The better of the best so far and vertex s.
 fn consider(work: &[u32], numbers: &[u32], z: Size, i: u32, w1: u32, s: u32, lead: Lead) -> Lead

@@ -5,7 +5,7 @@ use Rattle.progress.proofs.at_first.Statement.{statement}
 use Rattle.progress.proofs.at_first.Tie as tie
 use Rattle.progress.proofs.at_first.Reads as reads
 use Rattle.progress.proofs.at_first.Lts as lts
-use Rattle.rules.proofs.first_turn.Reads as first-turn-reads
+use Rattle.progress.proofs.first_turn.Reads as first-turn-reads
 
 first-turn-requires : tie.Need-first-turn-requires
 first-turn-requires c κs = search needs

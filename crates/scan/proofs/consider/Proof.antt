@@ -8,7 +8,7 @@ use Rattle.scan.proofs.consider.Reads as reads
 use Rattle.scan.proofs.consider.Lts as lts
 use Rattle.vertices.proofs.key.Reads as key-reads
 use Rattle.vertices.proofs.offered.Reads as offered-reads
-use Rattle.rules.proofs.Lead.better.Reads as better-reads
+use Rattle.scan.proofs.Lead.better.Reads as better-reads
 use Rattle.workspace.proofs.layout.load.Reads as load-reads
 
 mul-h : tie.Need-mul-h

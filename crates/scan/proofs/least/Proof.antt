@@ -1,6 +1,6 @@
 -- `least` meets its contract: the best of the first s vertices, and of all. Assumes nothing.
 use Prim.Native.Nat.{_-_}
-use Rattle.rules.specs.Lead.{bestOf}
+use Rattle.scan.specs.Lead.{bestOf}
 use Rattle.scan.proofs.Scanning.{Scanned, scanned-none, scanned-next, scanned-all}
 use borrow.Author.Needs.{needs}
 use Rattle.scan.proofs.least.Statement.{statement}
@@ -8,8 +8,8 @@ use Rattle.scan.proofs.least.Tie as tie
 use Rattle.scan.proofs.least.Reads as reads
 use Rattle.scan.proofs.least.Lts as lts
 use Rattle.scan.proofs.consider.Reads as consider-reads
-use Rattle.rules.proofs.Lead.best.Reads as best-reads
-use Rattle.rules.proofs.Lead.none.Reads as none-reads
+use Rattle.scan.proofs.Lead.best.Reads as best-reads
+use Rattle.scan.proofs.Lead.none.Reads as none-reads
 
 abbrev Inv-loop : tie.InvT-loop
 Inv-loop work numbers z i w1 vertices lead₀ s₀ lead s = Scanned z work numbers i w1 s (bestOf lead)

@@ -1,10 +1,10 @@
 -- `Lead::best` meets its contract. Assumes nothing.
 use borrow.Author.Tests.{eq-eqb, ne-eqb}
-use Rattle.rules.specs.Lead.{bestOf}
-use Rattle.rules.proofs.Lead.best.Statement.{statement}
-use Rattle.rules.proofs.Lead.best.Tie as tie
-use Rattle.rules.proofs.Lead.best.Reads as reads
-use Rattle.rules.proofs.Lead.best.Lts as lts
+use Rattle.scan.specs.Lead.{bestOf}
+use Rattle.scan.proofs.Lead.best.Statement.{statement}
+use Rattle.scan.proofs.Lead.best.Tie as tie
+use Rattle.scan.proofs.Lead.best.Reads as reads
+use Rattle.scan.proofs.Lead.best.Lts as lts
 
 returns : tie.Need-returns
 unfolding bestOf

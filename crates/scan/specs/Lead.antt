@@ -4,7 +4,7 @@ use mathlib.Core.Bool.{cond}
 use lib.Dec.{eqb}
 use Rattle.search.specs.declared.Best.{Best}
 use Rattle.search.specs.declared.Best.the-variants.{Nobody, Found}
-use Rattle.rules.specs.declared.Lead.{Lead}
+use Rattle.scan.specs.declared.Lead.{Lead}
 
 -- above all keys
 abbrev pub noKey : ℕ

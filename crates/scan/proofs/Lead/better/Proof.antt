@@ -6,14 +6,14 @@ use native.Mathlib.Omega.{arith}
 use borrow.Author.Tests.{lt-ltb, le-ltb, ne-eqb}
 use lib.Dec.{eqb}
 use Rattle.search.specs.declared.Best.the-variants.{Nobody, Found}
-use Rattle.rules.specs.declared.Lead.{Lead}
+use Rattle.scan.specs.declared.Lead.{Lead}
 use Rattle.search.specs.Turn.{better}
 use Rattle.search.specs.Bounds.{maxKey}
-use Rattle.rules.specs.Lead.{noKey, bestOf}
-use Rattle.rules.proofs.Lead.better.Statement.{statement}
-use Rattle.rules.proofs.Lead.better.Tie as tie
-use Rattle.rules.proofs.Lead.better.Reads as reads
-use Rattle.rules.proofs.Lead.better.Lts as lts
+use Rattle.scan.specs.Lead.{noKey, bestOf}
+use Rattle.scan.proofs.Lead.better.Statement.{statement}
+use Rattle.scan.proofs.Lead.better.Tie as tie
+use Rattle.scan.proofs.Lead.better.Reads as reads
+use Rattle.scan.proofs.Lead.better.Lts as lts
 
 module _ (k s : ℕ) (l : Lead) (small : k ≤ maxKey) where
   better-taken : k < l .key → bestOf (record { key = k; vertex = s }) ≡ better true k s (bestOf l)
