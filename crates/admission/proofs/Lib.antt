@@ -1,3 +1,2 @@
-pub mod AnchorRule
 pub mod Verdicts
 pub mod Admits

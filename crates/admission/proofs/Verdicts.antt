@@ -2,45 +2,28 @@
 -- Assumes nothing.
 use Prim.Native.Nat.{ℕ, _+_, _*_, _<_}
 use native.Mathlib.Omega.{arith}
-use mathlib.Core.Path.{_≡_, refl, sym, ap, _∙_}
+use mathlib.Core.Path.{_≡_, sym, ap, _∙_}
 use mathlib.Core.Bool.{Bool, true, false, not, _&&_, _||_}
 use mathlib.Core.List.{List, [], _∷_}
 use lib.ListN.{length, getD}
 use lib.Dec.{ltb, eqb}
-use borrow.Author.Tests.{ltb-true, eqb-true, eq-eqb, ne-eqb}
+use borrow.Author.Tests.{ltb-true, eqb-true}
 use Rattle.graph.specs.declared.Edge.{Edge}
 use Rattle.graph.specs.declared.Header.the-variants.{Counts}
 use Rattle.graph.specs.declared.PlanRead.{PlanRead}
 use Rattle.graph.specs.declared.PlanRead.the-variants.{Sizes}
 use Rattle.graph.specs.declared.PlanRead.the-variants as plan
 use Rattle.graph.specs.Plan.{Decoded, accepted, refused, header, afterHeader, decode, firstAt, edgesFrom, sizes}
-use Rattle.graph.specs.Lists.{Fault, none, fault, edgesIn}
+use Rattle.graph.specs.Lists.{Fault, edgesIn}
 use Rattle.graph.proofs.Tests.{or-right, and-true, not-false}
 use Rattle.cursor.proofs.Stored.{sized-by}
 use Rattle.search.specs.Job.{house}
 use Rattle.search.specs.Call.{inForce, row, first, endsRow, tablesRow, scheduleRow, memoryRow, goalRow, edgesRow, faultIn, faultOf, jobIn, jobFrom, jobOf}
-use Rattle.admission.specs.declared.Verdict.{Verdict}
-use Rattle.admission.specs.declared.Verdict.the-variants.{Refused}
-use Rattle.admission.specs.Admission.{verdict, verdictOf, Decided}
+use Rattle.consistency.specs.declared.Verdict.{Verdict}
+use Rattle.consistency.specs.declared.Verdict.the-variants.{Refused}
+use Rattle.consistency.specs.Verdict.{verdict}
+use Rattle.admission.specs.Admission.{verdictOf, Decided}
 use Rattle.admission.specs.Steps.{planVerdict}
-
--- ---- row 12, then row 13
-
-module _ (v m : ℕ) (h : List ℕ) (goal : ℕ) (es : List Edge) where
-  pub goal-fails : (getD h goal 0 ≡ 0 → ⊥) → Refused 12 0 ≡ verdict v m (first (row (not (eqb (getD h goal 0) 0)) 12 0 ∷ edgesRow h 0 es ∷ []))
-  unfolding verdict first row
-  goal-fails n = rw (ne-eqb (getD h goal 0) 0 n)
-
-  only : (f : Fault) → first (f ∷ []) ≡ f
-  unfolding first
-  only none = refl
-  only (fault n p) = refl
-
-  pub goal-holds :
-      (r : Verdict) → getD h goal 0 ≡ 0 → r ≡ verdict v m (edgesRow h 0 es) →
-      r ≡ verdict v m (first (row (not (eqb (getD h goal 0) 0)) 12 0 ∷ edgesRow h 0 es ∷ []))
-  unfolding first row
-  goal-holds r z e = rw (eq-eqb (getD h goal 0) 0 z) (e ∙ ap (verdict v m) (sym (only (edgesRow h 0 es))))
 
 -- ---- the rows of a call whose plan was checked
 

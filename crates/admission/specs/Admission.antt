@@ -4,15 +4,10 @@ use mathlib.Core.Path.{_≡_}
 use mathlib.Core.List.{List}
 use lib.ListN.{length}
 use Rattle.graph.specs.Plan.{decode}
-use Rattle.graph.specs.Lists.{Fault, none, fault, edgesIn}
+use Rattle.graph.specs.Lists.{edgesIn}
 use Rattle.search.specs.Call.{Memory, Call, faultOf, jobOf}
-use Rattle.admission.specs.declared.Verdict.{Verdict}
-use Rattle.admission.specs.declared.Verdict.the-variants.{Admitted, Refused}
-
--- a call is turned down where it has a fault; else it is admitted, with V and M of its plan
-unfoldable pub verdict : ℕ → ℕ → Fault → Verdict
-verdict v m none = Admitted v m
-verdict v m (fault n p) = Refused n p
+use Rattle.consistency.specs.declared.Verdict.{Verdict}
+use Rattle.consistency.specs.Verdict.{verdict}
 
 unfoldable pub verdictOf : Call → Verdict
 verdictOf c = verdict (jobOf c .size) (length (edgesIn (decode (c .bytes)))) (faultOf c)

@@ -3,24 +3,11 @@ ghost use mathlib.Core.Path.{_≡_};
 ghost use Rattle.admission.specs.Admission.{Decided};
 ghost use Rattle.admission.specs.Steps.{planVerdict};
 
-mod consistency;
 mod rows;
 
-use graph::Cursor;
+use consistency::Verdict;
 use graph::Header;
 use graph::PlanRead;
-
-// What is decided of a call: it is admitted, with V and M; or refused, number and position.
-pub enum Verdict {
-    Admitted(u32, u32),
-    Refused(u32, usize),
-}
-
-// An edge that was tried: the anchor rule holds on it, with the cursor past it; or it breaks the rule.
-enum Tried {
-    Holds(Cursor),
-    Breaks,
-}
 
 // The verdict on a plan by itself.
 fn plan_verdict(read: PlanRead) -> Verdict

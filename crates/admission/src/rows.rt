@@ -7,8 +7,7 @@ ghost use Rattle.graph.specs.declared.Header.the-variants.{Counts};
 ghost use Rattle.graph.specs.declared.PlanRead.the-variants.{Sizes};
 ghost use Rattle.graph.specs.Plan.{header, firstAt, edgesFrom, sizes};
 ghost use Rattle.admission.specs.Admission.{Decided};
-use crate::Verdict;
-use crate::consistency;
+use consistency::Verdict;
 
 // The most inadmissible heuristics.
 const MAX_GUIDES: u32 = 8;

@@ -24,8 +24,8 @@ use Rattle.search.proofs.Standing.{begin-good}
 use Rattle.search.proofs.Runs.{begin-expansions}
 use Rattle.search.proofs.Guarantee.{guaranteed}
 use Rattle.workspace.specs.declared.Size.{Size}
-use Rattle.admission.specs.declared.Verdict.{Verdict}
-use Rattle.admission.specs.declared.Verdict.the-variants.{Admitted, Refused}
+use Rattle.consistency.specs.declared.Verdict.{Verdict}
+use Rattle.consistency.specs.declared.Verdict.the-variants.{Admitted, Refused}
 use Rattle.admission.specs.Admission.{verdictOf}
 use Rattle.admission.proofs.Admits.{Admits, admits, refuses}
 use Rattle.rounds.specs.declared.Query.{Query}

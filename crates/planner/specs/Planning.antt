@@ -7,8 +7,8 @@ use Rattle.search.specs.declared.Answer.{Answer}
 use Rattle.search.specs.declared.Answer.the-variants as answers
 use Rattle.search.specs.Call.{Call}
 use Rattle.search.specs.Outcome.{answer, memoryAfter}
-use Rattle.admission.specs.declared.Verdict.{Verdict}
-use Rattle.admission.specs.declared.Verdict.the-variants.{Admitted, Refused}
+use Rattle.consistency.specs.declared.Verdict.{Verdict}
+use Rattle.consistency.specs.declared.Verdict.the-variants.{Admitted, Refused}
 use Rattle.workspace.specs.declared.Size.{Size}
 use Rattle.rounds.specs.declared.Query.{Query}
 use Rattle.rounds.specs.Carried.{Asking}

@@ -1,7 +1,7 @@
 // The answer to a planner call: refused, or the search begun, run and handed over.
 ghost use mathlib.Core.Path.{_≡_};
 ghost use Rattle.planner.specs.Planning.{refusalOf, Admission, Answers};
-use admission::Verdict;
+use consistency::Verdict;
 use graph::Header;
 use rounds::Query;
 use search::Answer;

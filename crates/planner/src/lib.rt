@@ -3,7 +3,7 @@ ghost use Rattle.planner.specs.Plan.{callOf, Planned};
 
 mod answers;
 
-use admission::Verdict;
+use consistency::Verdict;
 use rounds::Query;
 use search::Answer;
 use workspace::Size;

@@ -67,7 +67,7 @@ pub fn settle(
         };
     }
     let f = schedule::factors(schedule, p.rounds);
-    let step = turn::step(work, anchor, z, f, q.goal);
+    let step = step_one::step(work, anchor, z, f, q.goal);
     match step {
         Step::Stuck => Standing { step, progress: p },
         Step::Finished => {

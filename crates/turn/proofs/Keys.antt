@@ -1,44 +1,28 @@
--- Laws for the code that tests step 1 and chooses: bounds of keys, and the sheets.
+-- Laws for the code that chooses: bounds of what is chosen, and the sheets.
 -- Assumes nothing.
 use Prim.Native.Nat.{ℕ, zero, suc, _+_, _*_, _-_, _≤_, _<_}
 use mathlib.Core.Path.{_≡_, refl, sym, ap, _∙_}
-use mathlib.Core.Bool.{Bool, true, false, cond, _&&_}
+use mathlib.Core.Bool.{Bool, true, false, cond}
 use mathlib.Core.List.{List, [], _∷_}
 use native.Mathlib.Nat.{suc-mul, zero-mul, not-suc-le-zero, le-of-suc-le-suc}
 use native.Mathlib.Omega.{arith}
 use borrow.Author.Tests.{eq-eqb, ne-eqb}
-use lib.Dec.{leb, ltb}
+use lib.Dec.{leb}
 use lib.ListN.{getD, take, drop}
 use lib.Seq.{drop-drop}
 use Rattle.search.specs.declared.Best.{Best}
 use Rattle.search.specs.declared.Best.the-variants.{Nobody, Found}
-use Rattle.search.specs.declared.Step.{Step}
-use Rattle.search.specs.declared.Step.the-variants.{Stuck, Finished, Due}
 use Rattle.search.specs.declared.Choice.{Choice}
 use Rattle.search.specs.declared.Vertex.{Vertex}
-use Rattle.search.specs.Job.{unreached}
-use Rattle.search.specs.Turn.{least, stepOne, candidate, choose}
+use Rattle.search.specs.Turn.{least, candidate, choose}
 use Rattle.search.specs.Call.{tables}
-use Rattle.search.specs.Bounds.{Within, DueWithin}
+use Rattle.search.specs.Bounds.{Within}
 use Rattle.turn.specs.Asked.{sheet}
 
 -- ---- bounds
 
 module _ (n : ℕ) where
-  due-by : (b : Best) (t : Step) → Within n b → ((m a : ℕ) → t ≡ Due m a → b ≡ Found m a) → DueWithin n t
-  due-by b t h f = record { key = λ m a e. h .small .key m a (f m a e); vertex = λ m a e. h .vertex m a (f m a e) }
-
-  -- what step 1 names is within bounds
-  pub due-within : (w2 g : ℕ) (b : Best) → Within n b → DueWithin n (stepOne w2 g b)
-  unfolding stepOne unreached
-  due-within w2 g Nobody h = due-by Nobody Stuck h (λ m a e. let z : _≡_ {A = ℕ} 0 1 = cc in absurd (omega arith))
-  due-within w2 g (Found k s) h = go (ltb g unreached && leb (10000 * g) (w2 * k))
-    where
-      go : (t : Bool) → DueWithin n (cond t Finished (Due k s))
-      go true = due-by (Found k s) Finished h (λ m a e. let z : _≡_ {A = ℕ} 0 1 = cc in absurd (omega arith))
-      go false = due-by (Found k s) (Due k s) h (λ m a e. let p : k ≡ m = cc in let q : s ≡ a = cc in cc)
-
-  -- so is what step 3 chooses
+  -- what step 3 chooses is within bounds
   pub record Inside (i : ℕ) (c : Choice) : Type 0 where
     pub vertex : c .vertex < n
     pub heuristic : c .heuristic ≤ i

@@ -10,7 +10,7 @@ use Rattle.rounds.proofs.settle.Reads as settle
 use Rattle.rounds.proofs.settle.Kinds as settle-kinds
 use Rattle.rounds.proofs.+settle.Lts-settle as settle-lts
 use Rattle.schedule.proofs.factors.Reads as factors-reads
-use Rattle.turn.proofs.step.Reads as step-reads
+use Rattle.step_one.proofs.step.Reads as step-reads
 use Rattle.rounds.proofs.end_round.Reads as end-round-reads
 use Rattle.rounds.proofs.+settle.{statement}
 use Rattle.rounds.proofs.+settle.Tie.{close}

@@ -20,11 +20,11 @@ use Rattle.graph.proofs.Plan.{First}
 use Rattle.cursor.proofs.Stored as laws
 use Rattle.cursor.proofs.Stored.{sized-by, Stored, stored-none, stored-next}
 use Rattle.search.specs.Call.{edgesRow}
-use Rattle.admission.specs.declared.Tried.{Tried}
-use Rattle.admission.specs.declared.Tried.the-variants.{Holds, Breaks}
-use Rattle.admission.specs.declared.Verdict.the-variants.{Admitted, Refused}
-use Rattle.admission.specs.Admission.{verdict}
-use Rattle.admission.specs.Steps.{breaks, tried}
+use Rattle.consistency.specs.declared.Tried.{Tried}
+use Rattle.consistency.specs.declared.Tried.the-variants.{Holds, Breaks}
+use Rattle.consistency.specs.declared.Verdict.the-variants.{Admitted, Refused}
+use Rattle.consistency.specs.Verdict.{verdict}
+use Rattle.consistency.specs.Steps.{breaks, tried}
 
 -- an edge that was read joins vertices
 pub read-within : (v : ℕ) (s : List ℕ) (c : Cursor) (e : Edge) (c′ : Cursor) → nextEdge v s c ≡ Next e c′ → EdgeWithin v e

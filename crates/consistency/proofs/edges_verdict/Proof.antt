@@ -2,9 +2,9 @@
 use Prim.Native.Nat.{_-_}
 use native.Mathlib.Omega.{arith}
 use borrow.Author.Needs.{needs}
-use Rattle.admission.proofs.AnchorRule.{Kept, kept-first, kept-next, kept-breaks, kept-all}
-use Rattle.admission.proofs.consistency.edges_verdict.Statement.{statement}
-use Rattle.admission.proofs.consistency.edges_verdict.Tie as tie
+use Rattle.consistency.proofs.AnchorRule.{Kept, kept-first, kept-next, kept-breaks, kept-all}
+use Rattle.consistency.proofs.edges_verdict.Statement.{statement}
+use Rattle.consistency.proofs.edges_verdict.Tie as tie
 
 abbrev Inv-loop : tie.InvT-loop
 Inv-loop bytes vertices edges at anchor count cursor₀ i₀ cursor i = Kept vertices edges bytes at anchor i cursor

@@ -1,10 +1,10 @@
 -- `step` meets its contract. Assumes nothing.
-use Rattle.turn.proofs.Keys.{due-within}
+use Rattle.step_one.proofs.Due.{due-within}
 use borrow.Author.Needs.{needs}
-use Rattle.turn.proofs.step.Statement.{statement}
-use Rattle.turn.proofs.step.Tie as tie
-use Rattle.turn.proofs.step.Reads as reads
-use Rattle.turn.proofs.step.Lts as lts
+use Rattle.step_one.proofs.step.Statement.{statement}
+use Rattle.step_one.proofs.step.Tie as tie
+use Rattle.step_one.proofs.step.Reads as reads
+use Rattle.step_one.proofs.step.Lts as lts
 use Rattle.scan.proofs.least.Reads as least-reads
 use Rattle.rules.proofs.step_one.Reads as step-one-reads
 use Rattle.workspace.proofs.layout.load.Reads as load-reads

@@ -9,13 +9,23 @@ ghost use Rattle.graph.specs.declared.PlanRead.the-variants.{Sizes};
 ghost use Rattle.graph.specs.Plan.{firstAt, nextEdge, edgesFrom, sizes};
 ghost use Rattle.graph.specs.Lists.{edgesIn};
 ghost use Rattle.search.specs.Call.{row, first, edgesRow};
-ghost use Rattle.admission.specs.Admission.{verdict};
-ghost use Rattle.admission.specs.Steps as steps;
-use crate::Tried;
-use crate::Verdict;
+ghost use Rattle.consistency.specs.Verdict.{verdict};
+ghost use Rattle.consistency.specs.Steps as steps;
 use graph::Cursor;
 use graph::Edge;
 use graph::EdgeRead;
+
+// What is decided of a call: it is admitted, with V and M; or refused, number and position.
+pub enum Verdict {
+    Admitted(u32, u32),
+    Refused(u32, usize),
+}
+
+// An edge that was tried: the anchor rule holds on it, with the cursor past it; or it breaks the rule.
+enum Tried {
+    Holds(Cursor),
+    Breaks,
+}
 
 // Whether an edge breaks the rule; the sum may pass 32 bits.
 fn breaks(edge: Edge, anchor: &[u32]) -> bool

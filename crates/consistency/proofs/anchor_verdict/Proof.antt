@@ -1,8 +1,8 @@
 -- `anchor_verdict` meets its contract. Assumes nothing.
-use Rattle.admission.proofs.Verdicts.{goal-fails, goal-holds}
+use Rattle.consistency.proofs.Goal.{goal-fails, goal-holds}
 use borrow.Author.Needs.{needs}
-use Rattle.admission.proofs.consistency.anchor_verdict.Statement.{statement}
-use Rattle.admission.proofs.consistency.anchor_verdict.Tie as tie
+use Rattle.consistency.proofs.anchor_verdict.Statement.{statement}
+use Rattle.consistency.proofs.anchor_verdict.Tie as tie
 
 mul-if1 : tie.Need-mul-if1
 mul-if1 c = search needs

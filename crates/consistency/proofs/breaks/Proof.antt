@@ -1,10 +1,10 @@
 -- `breaks` meets its contract: the sum is taken in 64 bits. Assumes nothing.
 use mathlib.Core.Path.{refl}
 use native.Mathlib.Omega.{arith}
-use Rattle.admission.specs.Steps.{breaks}
+use Rattle.consistency.specs.Steps.{breaks}
 use borrow.Author.Needs.{needs}
-use Rattle.admission.proofs.consistency.breaks.Statement.{statement}
-use Rattle.admission.proofs.consistency.breaks.Tie as tie
+use Rattle.consistency.proofs.breaks.Statement.{statement}
+use Rattle.consistency.proofs.breaks.Tie as tie
 
 cast-tail : tie.Need-cast-tail
 cast-tail c = search needs

@@ -1,10 +1,10 @@
 -- `try_edge` meets its contract. Assumes nothing.
 use mathlib.Core.Path.{sym, _∙_}
 use native.Mathlib.Omega.{arith}
-use Rattle.admission.proofs.AnchorRule.{read-within, tried-fault, tried-breaks, tried-holds}
+use Rattle.consistency.proofs.AnchorRule.{read-within, tried-fault, tried-breaks, tried-holds}
 use borrow.Author.Needs.{needs}
-use Rattle.admission.proofs.consistency.try_edge.Statement.{statement}
-use Rattle.admission.proofs.consistency.try_edge.Tie as tie
+use Rattle.consistency.proofs.try_edge.Statement.{statement}
+use Rattle.consistency.proofs.try_edge.Tie as tie
 
 step-requires : tie.Need-step-requires
 step-requires c κs = search needs

@@ -1,0 +1,2 @@
+pub mod AnchorRule
+pub mod Goal
