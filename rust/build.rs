@@ -17,10 +17,11 @@ fn main() {
     println!("cargo:rerun-if-env-changed=SECONDCOOP_LIB_DIR");
     println!("cargo:rerun-if-changed=build.rs");
     println!("cargo:rustc-link-search=native={}", directory.display());
-    // Numbers and plans; planner calls and the bench text. The names of the
+    // Numbers; plans; planner calls and the bench text. The names of the
     // archives are for tests that link a C program.
     for (library, variable) in [
-        ("ffi", "SECONDCOOP_CODEC_ARCHIVE"),
+        ("ffi_numbers", "SECONDCOOP_NUMBERS_ARCHIVE"),
+        ("ffi_plans", "SECONDCOOP_PLANS_ARCHIVE"),
         ("ffi_planner", "SECONDCOOP_PLANNER_ARCHIVE"),
     ] {
         let archive = directory.join(format!("lib{library}.a"));

@@ -1,12 +1,12 @@
 -- `secondcoop_check_plan` meets its contract. Assumes nothing.
 use mathlib.Core.Path.{ap, _∙_}
-use Rattle.ffi.specs.Figures.{planFigures}
+use Rattle.ffi_plans.specs.Figures.{planFigures}
 use borrow.Author.Needs.{needs}
-use Rattle.ffi.proofs.secondcoop_check_plan.Statement.{statement}
-use Rattle.ffi.proofs.secondcoop_check_plan.Tie as tie
-use Rattle.ffi.proofs.secondcoop_check_plan.Reads as reads
-use Rattle.ffi.proofs.secondcoop_check_plan.Lts as lts
-use Rattle.ffi.proofs.of_plan.Reads as of-plan-reads
+use Rattle.ffi_plans.proofs.secondcoop_check_plan.Statement.{statement}
+use Rattle.ffi_plans.proofs.secondcoop_check_plan.Tie as tie
+use Rattle.ffi_plans.proofs.secondcoop_check_plan.Reads as reads
+use Rattle.ffi_plans.proofs.secondcoop_check_plan.Lts as lts
+use Rattle.ffi_plans.proofs.of_plan.Reads as of-plan-reads
 use Rattle.graph_check.proofs.check.Reads as check-reads
 
 check-requires : tie.Need-check-requires

@@ -1,13 +1,13 @@
 -- `secondcoop_write_plan` meets its contract. Assumes nothing.
 use mathlib.Core.Path.{ap, _∙_}
 use Rattle.graph.specs.Lists.{outAfter}
-use Rattle.ffi.specs.Figures.{countFigures}
+use Rattle.ffi_plans.specs.Figures.{countFigures}
 use borrow.Author.Needs.{needs}
-use Rattle.ffi.proofs.secondcoop_write_plan.Statement.{statement}
-use Rattle.ffi.proofs.secondcoop_write_plan.Tie as tie
-use Rattle.ffi.proofs.secondcoop_write_plan.Reads as reads
-use Rattle.ffi.proofs.secondcoop_write_plan.Lts as lts
-use Rattle.ffi.proofs.of_count.Reads as of-count-reads
+use Rattle.ffi_plans.proofs.secondcoop_write_plan.Statement.{statement}
+use Rattle.ffi_plans.proofs.secondcoop_write_plan.Tie as tie
+use Rattle.ffi_plans.proofs.secondcoop_write_plan.Reads as reads
+use Rattle.ffi_plans.proofs.secondcoop_write_plan.Lts as lts
+use Rattle.ffi_plans.proofs.of_count.Reads as of-count-reads
 use Rattle.graph_writer.proofs.write.Reads as write-reads
 
 write-requires : tie.Need-write-requires
