@@ -1,8 +1,4 @@
 -- What the functions of the cursor and of the check ask and give: for their contracts and their callers' alone, nothing that a reader must believe.
-use Prim.Native.Nat.{ℕ}
-use mathlib.Core.List.{List}
-use mathlib.Core.Path.{_≡_}
-use Rattle.graph.specs.declared.Edge.{Edge}
 use Rattle.graph.specs.declared.Cursor.{Cursor}
 use Rattle.graph.specs.declared.Taken.{Taken}
 use Rattle.graph.specs.declared.Taken.the-variants.{Number, Bad}
@@ -12,7 +8,6 @@ use Rattle.graph.specs.declared.Header.{Header}
 use Rattle.graph.specs.declared.Header.the-variants.{Counts, HeaderFault}
 use Rattle.graph.specs.declared.PlanRead.{PlanRead}
 use Rattle.graph.specs.declared.PlanRead.the-variants.{Refused}
-use Rattle.graph.specs.Plan.{nextEdge}
 
 -- a refusal carried from one answer to the next; 0 at 0 stands where there is none
 abbrev pub cursorRefusal : Taken → EdgeRead
@@ -30,12 +25,6 @@ edgeRefusal (Next e c) = Refused 0 0
 abbrev pub planRefusal : Header → PlanRead
 planRefusal (HeaderFault n p) = Refused n p
 planRefusal (Counts v m at) = Refused 0 0
-
--- the step from a cursor gives an edge, as in a plan that was checked
-pub record Stepped (v : ℕ) (s : List ℕ) (c : Cursor) : Type 0 where
-  pub edge : Edge
-  pub after : Cursor
-  pub is : nextEdge v s c ≡ Next edge after
 
 -- the cursor past an edge that was read
 unfoldable pub cursorPast : Cursor → EdgeRead → Cursor
