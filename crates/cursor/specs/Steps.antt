@@ -1,11 +1,9 @@
--- What the functions of the cursor and of the check ask and give: for their contracts and their callers' alone, nothing that a reader must believe.
+-- What the functions of the cursor and of the check give: for their contracts and their callers' alone, nothing that a reader must believe.
 use Rattle.graph.specs.declared.Cursor.{Cursor}
 use Rattle.graph.specs.declared.Taken.{Taken}
 use Rattle.graph.specs.declared.Taken.the-variants.{Number, Bad}
 use Rattle.graph.specs.declared.EdgeRead.{EdgeRead}
 use Rattle.graph.specs.declared.EdgeRead.the-variants.{Next, Fault}
-use Rattle.graph.specs.declared.Header.{Header}
-use Rattle.graph.specs.declared.Header.the-variants.{Counts, HeaderFault}
 use Rattle.graph.specs.declared.PlanRead.{PlanRead}
 use Rattle.graph.specs.declared.PlanRead.the-variants.{Refused}
 
@@ -14,17 +12,9 @@ abbrev pub cursorRefusal : Taken → EdgeRead
 cursorRefusal (Bad n p) = Fault n p
 cursorRefusal (Number x at) = Fault 0 0
 
-abbrev pub headerRefusal : Taken → Header
-headerRefusal (Bad n p) = HeaderFault n p
-headerRefusal (Number x at) = HeaderFault 0 0
-
 abbrev pub edgeRefusal : EdgeRead → PlanRead
 edgeRefusal (Fault n p) = Refused n p
 edgeRefusal (Next e c) = Refused 0 0
-
-abbrev pub planRefusal : Header → PlanRead
-planRefusal (HeaderFault n p) = Refused n p
-planRefusal (Counts v m at) = Refused 0 0
 
 -- the cursor past an edge that was read
 unfoldable pub cursorPast : Cursor → EdgeRead → Cursor

@@ -93,9 +93,9 @@ pub fn read(bytes: &[u8], tails: &mut [u32], heads: &mut [u32], costs: &mut [u32
     ensures { λ r. ⌜ now (heads .exit) ≡ listAfter headOf (now (bytes .entry)) (now (heads .entry)) r ⌝ }
     ensures { λ r. ⌜ now (costs .exit) ≡ listAfter costOf (now (bytes .entry)) (now (costs .entry)) r ⌝ }
 {
-    let counts = graph_check::header(bytes);
+    let counts = plan_header::header(bytes);
     let Header::Counts(vertices, edges, at) = counts else {
-        return graph_check::header_refusal(counts);
+        return plan_header::header_refusal(counts);
     };
     let checked = graph_check::check_edges(bytes, vertices, edges, at);
     let PlanRead::Sizes(_, _) = checked else {
