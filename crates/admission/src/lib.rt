@@ -33,9 +33,9 @@ pub fn fault(
 ) -> Verdict
     ensures { λ r. ⌜ Decided (now (bytes .entry)) start goal (now (anchor .entry)) (now (guides .entry)) «guide_count» (now (schedule .entry)) «route_len» «work_len» r ⌝ }
 {
-    let counts = graph_check::header(bytes);
+    let counts = plan_header::header(bytes);
     let Header::Counts(vertices, edges, at) = counts else {
-        return plan_verdict(graph_check::header_refusal(counts));
+        return plan_verdict(plan_header::header_refusal(counts));
     };
     let checked = graph_check::check_edges(bytes, vertices, edges, at);
     let PlanRead::Sizes(_, _) = checked else {

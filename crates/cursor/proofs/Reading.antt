@@ -1,4 +1,4 @@
--- Laws for the code that reads a plan: each step of it gives what the definition gives.
+-- Laws for the code that reads the edges of a plan: each step of it gives what the definition gives.
 -- Assumes nothing.
 use Prim.Native.Nat.{ℕ, zero, suc, _+_, _-_, _≤_, _<_}
 use native.Mathlib.Omega.{arith}
@@ -14,14 +14,12 @@ use Rattle.graph.specs.declared.Taken.{Taken}
 use Rattle.graph.specs.declared.Taken.the-variants.{Number, Bad}
 use Rattle.graph.specs.declared.EdgeRead.{EdgeRead}
 use Rattle.graph.specs.declared.EdgeRead.the-variants.{Next, Fault}
-use Rattle.graph.specs.declared.Header.{Header}
-use Rattle.graph.specs.declared.Header.the-variants.{Counts, HeaderFault}
 use Rattle.graph.specs.declared.PlanRead.{PlanRead}
 use Rattle.graph.specs.declared.PlanRead.the-variants.{Sizes, Refused}
 use Rattle.graph.specs.Limits.{maxVertices}
-use Rattle.graph.specs.Rows.{Row, row, through, take, taking, vertexCountRows, edgeCountRows, tailRows, headRows, costRows}
-use Rattle.graph.specs.Plan.{Decoded, accepted, refused, firstAt, leastAfter, past, nextEdge, before, onward, edgesFrom, header, afterHeader, decode, sizes}
-use Rattle.cursor.specs.Steps.{cursorRefusal, headerRefusal, edgeRefusal, planRefusal}
+use Rattle.graph.specs.Rows.{Row, row, through, take, taking, tailRows, headRows, costRows}
+use Rattle.graph.specs.Plan.{Decoded, accepted, refused, firstAt, leastAfter, past, nextEdge, before, onward, edgesFrom, sizes}
+use Rattle.cursor.specs.Steps.{cursorRefusal, edgeRefusal}
 use Rattle.graph.proofs.Rows.{Passed, take-passed}
 
 -- ---- the cursor's step
@@ -64,22 +62,6 @@ module _ (v : ℕ) (s : List ℕ) (c : Cursor) where
       Next (record { tail = c .tail + d; head = h; cost = x }) (record { at = end; tail = c .tail + d; least = h + 1 }) ≡ nextEdge v s c
   unfolding nextEdge taking leastAfter past
   step-edge d headAt l h costAt x end a k i e = rw (a, sym k, i, e)
-
--- ---- the header
-
-module _ (s : List ℕ) where
-  module _ (t : Taken) (r : Header) (n p : ℕ) (f : r ≡ headerRefusal t) (b : t ≡ Bad n p) where
-    pub header-vertices : t ≡ take s 0 vertexCountRows → r ≡ header s
-    unfolding header taking
-    header-vertices e = f ∙ ap headerRefusal b ∙ rw (sym e ∙ b)
-
-    pub header-edges : (v at : ℕ) → take s 0 vertexCountRows ≡ Number v at → t ≡ take s at edgeCountRows → r ≡ header s
-    unfolding header taking
-    header-edges v at a e = f ∙ ap headerRefusal b ∙ rw (a, sym e ∙ b)
-
-  pub header-counts : (v at m end : ℕ) → take s 0 vertexCountRows ≡ Number v at → take s at edgeCountRows ≡ Number m end → Counts v m end ≡ header s
-  unfolding header taking
-  header-counts v at m end a e = rw (a, e)
 
 -- ---- edge after edge
 
@@ -160,15 +142,3 @@ module _ (v m : ℕ) (s : List ℕ) (at : ℕ) where
     pub told-end : length s ≤ c .at → Sizes v m ≡ sizes (edgesFrom v m s (firstAt at))
     unfolding edgesFrom sizes more
     told-end l = sym (told-none ∙ simp (le-ltb (c .at) (length s) l) (ap (Sizes v) (omega arith)))
-
--- ---- the whole plan
-
-module _ (s : List ℕ) (h : Header) (a : PlanRead) where
-  pub check-header : (n p : ℕ) → a ≡ planRefusal h → h ≡ HeaderFault n p → h ≡ header s → a ≡ sizes (decode s)
-  unfolding decode afterHeader sizes
-  check-header n p f b e = f ∙ ap planRefusal b ∙ rw (sym e ∙ b)
-
-  pub check-rest :
-      (v m at : ℕ) → a ≡ sizes (edgesFrom v m s (firstAt at)) → h ≡ Counts v m at → h ≡ header s → a ≡ sizes (decode s)
-  unfolding decode afterHeader
-  check-rest v m at f b e = f ∙ rw (sym e ∙ b)

@@ -11,7 +11,7 @@ use Rattle.graph.specs.declared.PlanRead.the-variants.{Sizes, Refused}
 use Rattle.graph.specs.Plan.{Decoded, accepted, refused, firstAt, nextEdge, edgesFrom, sizes}
 use Rattle.graph.specs.Lists.{edgesIn}
 use Rattle.graph.proofs.Plan.{First, first-of, Accepts, accepts}
-use Rattle.cursor.specs.Steps.{Stepped, cursorPast}
+use Rattle.cursor.specs.Steps.{cursorPast}
 
 sizes≢refused : {v m n p : ℕ} → Refused n p ≡ Sizes v m → ⊥
 sizes≢refused h = let z : _≡_ {A = ℕ} 0 1 = cc in omega arith
@@ -54,9 +54,6 @@ module _ (v m : ℕ) (s : List ℕ) (at : ℕ) where
 
     pub first : First v (m - suc i) s c v all
     first = first-of v (m - suc i) s c v all accepts-all
-
-    pub stepped : Stepped v s c
-    stepped = record { edge = first .edge; after = first .after; is = first .is }
 
     pub cursor-next : cursorPast c (nextEdge v s c) ≡ first .after
     unfolding cursorPast

@@ -1,41 +1,20 @@
--- What the functions of the cursor and of the check ask and give: for their contracts and their callers' alone, nothing that a reader must believe.
-use Prim.Native.Nat.{ℕ}
-use mathlib.Core.List.{List}
-use mathlib.Core.Path.{_≡_}
-use Rattle.graph.specs.declared.Edge.{Edge}
+-- What the functions of the cursor and of the check give: for their contracts and their callers' alone, nothing that a reader must believe.
 use Rattle.graph.specs.declared.Cursor.{Cursor}
 use Rattle.graph.specs.declared.Taken.{Taken}
 use Rattle.graph.specs.declared.Taken.the-variants.{Number, Bad}
 use Rattle.graph.specs.declared.EdgeRead.{EdgeRead}
 use Rattle.graph.specs.declared.EdgeRead.the-variants.{Next, Fault}
-use Rattle.graph.specs.declared.Header.{Header}
-use Rattle.graph.specs.declared.Header.the-variants.{Counts, HeaderFault}
 use Rattle.graph.specs.declared.PlanRead.{PlanRead}
 use Rattle.graph.specs.declared.PlanRead.the-variants.{Refused}
-use Rattle.graph.specs.Plan.{nextEdge}
 
 -- a refusal carried from one answer to the next; 0 at 0 stands where there is none
 abbrev pub cursorRefusal : Taken → EdgeRead
 cursorRefusal (Bad n p) = Fault n p
 cursorRefusal (Number x at) = Fault 0 0
 
-abbrev pub headerRefusal : Taken → Header
-headerRefusal (Bad n p) = HeaderFault n p
-headerRefusal (Number x at) = HeaderFault 0 0
-
 abbrev pub edgeRefusal : EdgeRead → PlanRead
 edgeRefusal (Fault n p) = Refused n p
 edgeRefusal (Next e c) = Refused 0 0
-
-abbrev pub planRefusal : Header → PlanRead
-planRefusal (HeaderFault n p) = Refused n p
-planRefusal (Counts v m at) = Refused 0 0
-
--- the step from a cursor gives an edge, as in a plan that was checked
-pub record Stepped (v : ℕ) (s : List ℕ) (c : Cursor) : Type 0 where
-  pub edge : Edge
-  pub after : Cursor
-  pub is : nextEdge v s c ≡ Next edge after
 
 -- the cursor past an edge that was read
 unfoldable pub cursorPast : Cursor → EdgeRead → Cursor

@@ -4,13 +4,12 @@ mod number;
 ghost use mathlib.Core.Path.{_≡_};
 ghost use mathlib.Core.Bool.{cond};
 ghost use lib.Dec.{eqb};
-ghost use Rattle.cursor.specs.Steps.{cursorRefusal, Stepped};
+ghost use Rattle.cursor.specs.Steps.{cursorRefusal};
 ghost use Rattle.graph.specs.Plan.{firstAt, nextEdge};
 use graph::Cursor;
 use graph::Edge;
 use graph::EdgeRead;
 use graph::Taken;
-use leb128::NumberRead;
 
 // The least head that may follow: the tail is the same where the difference is 0.
 fn least_after(least: u32, difference: u32) -> u32
@@ -59,33 +58,6 @@ pub fn step(cursor: Cursor, bytes: &[u8], vertices: u32) -> EdgeRead
     let cost_read = number::take_cost(bytes, cost_at);
     let Taken::Number(cost, end) = cost_read else {
         return fault(cost_read);
-    };
-    let tail = before + difference;
-    EdgeRead::Next(
-        Edge { tail, head, cost },
-        Cursor {
-            at: end,
-            tail,
-            least: head + 1,
-        },
-    )
-}
-
-// The next edge of a plan that was checked, and the cursor past it: its numbers pass their rows.
-pub fn step_checked(cursor: Cursor, bytes: &[u8], vertices: u32) -> EdgeRead
-    requires { ⌜ Stepped vertices (now bytes) cursor ⌝ }
-    ensures { λ r. ⌜ r ≡ nextEdge vertices (now (bytes .entry)) cursor ⌝ }
-{
-    let at = cursor.at;
-    let before = cursor.tail;
-    let NumberRead::Value(difference, head_at) = leb128_reader::read_plan_number(bytes, at) else {
-        return EdgeRead::Fault(1, at);
-    };
-    let NumberRead::Value(head, cost_at) = leb128_reader::read_plan_number(bytes, head_at) else {
-        return EdgeRead::Fault(1, head_at);
-    };
-    let NumberRead::Value(cost, end) = leb128_reader::read_plan_number(bytes, cost_at) else {
-        return EdgeRead::Fault(1, cost_at);
     };
     let tail = before + difference;
     EdgeRead::Next(

@@ -1,10 +1,19 @@
--- What the private functions of reading give: for their contracts alone, nothing that a reader must believe.
+-- What the private functions of reading ask and give: for their contracts alone, nothing that a reader must believe.
 use Prim.Native.Nat.{ℕ}
 use mathlib.Core.List.{List}
+use mathlib.Core.Path.{_≡_}
 use lib.ListN.{set}
 use Rattle.graph.specs.declared.Edge.{Edge}
+use Rattle.graph.specs.declared.Cursor.{Cursor}
 use Rattle.graph.specs.declared.EdgeRead.{EdgeRead}
 use Rattle.graph.specs.declared.EdgeRead.the-variants.{Next, Fault}
+use Rattle.graph.specs.Plan.{nextEdge}
+
+-- the step from a cursor gives an edge, as in a plan that was checked
+pub record Stepped (v : ℕ) (s : List ℕ) (c : Cursor) : Type 0 where
+  pub edge : Edge
+  pub after : Cursor
+  pub is : nextEdge v s c ≡ Next edge after
 
 -- one edge stored at i in one list
 unfoldable pub storedAt : (Edge → ℕ) → ℕ → List ℕ → EdgeRead → List ℕ

@@ -1,4 +1,6 @@
 // A plan read into three lent lists: V and M, or the refusal, and then the lists are untouched.
+mod checked;
+
 ghost use Prim.Native.Nat.{_<_, _≤_};
 ghost use mathlib.Core.Path.{_≡_};
 ghost use mathlib.Core.Bool.{_&&_};
@@ -8,8 +10,8 @@ ghost use lib.Dec.{leb};
 ghost use Rattle.graph.specs.declared.PlanRead.the-variants.{Sizes};
 ghost use Rattle.graph.specs.Plan.{firstAt, nextEdge, edgesFrom, sizes};
 ghost use Rattle.graph.specs.Lists.{tailOf, headOf, costOf, over, roomFor, edgesIn, readAnswer, listAfter};
-ghost use Rattle.cursor.specs.Steps.{Stepped, cursorPast};
-ghost use Rattle.graph_reader.specs.Steps.{storedAt};
+ghost use Rattle.cursor.specs.Steps.{cursorPast};
+ghost use Rattle.graph_reader.specs.Steps.{Stepped, storedAt};
 use graph::Cursor;
 use graph::EdgeRead;
 use graph::Header;
@@ -48,7 +50,7 @@ fn store(
     ensures { λ r. ⌜ now (heads .exit) ≡ storedAt headOf i (now (heads .entry)) (nextEdge vertices (now (bytes .entry)) cursor) ⌝ }
     ensures { λ r. ⌜ now (costs .exit) ≡ storedAt costOf i (now (costs .entry)) (nextEdge vertices (now (bytes .entry)) cursor) ⌝ }
 {
-    let EdgeRead::Next(edge, next) = cursor::step_checked(cursor, bytes, vertices) else {
+    let EdgeRead::Next(edge, next) = checked::step_checked(cursor, bytes, vertices) else {
         return cursor;
     };
     tails[i] = edge.tail;
@@ -91,9 +93,9 @@ pub fn read(bytes: &[u8], tails: &mut [u32], heads: &mut [u32], costs: &mut [u32
     ensures { λ r. ⌜ now (heads .exit) ≡ listAfter headOf (now (bytes .entry)) (now (heads .entry)) r ⌝ }
     ensures { λ r. ⌜ now (costs .exit) ≡ listAfter costOf (now (bytes .entry)) (now (costs .entry)) r ⌝ }
 {
-    let counts = graph_check::header(bytes);
+    let counts = plan_header::header(bytes);
     let Header::Counts(vertices, edges, at) = counts else {
-        return graph_check::header_refusal(counts);
+        return plan_header::header_refusal(counts);
     };
     let checked = graph_check::check_edges(bytes, vertices, edges, at);
     let PlanRead::Sizes(_, _) = checked else {

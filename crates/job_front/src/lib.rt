@@ -42,7 +42,7 @@ fn read_rounds(
 ) -> FrontRead
     ensures { λ r. ⌜ r ≡ rounds (now (job .entry)) plan end start goal budget at ⌝ }
 {
-    let NumberRead::Value(rounds, factors) = leb128_reader::read_job_number(job, at) else {
+    let NumberRead::Value(rounds, factors) = job_number_reader::read_job_number(job, at) else {
         return FrontRead::Broken;
     };
     if MAX_ROUNDS < rounds {
@@ -51,7 +51,8 @@ fn read_rounds(
     let NumbersRead::Past(guides_at) = job_numbers::past(job, factors, 2 * rounds as usize) else {
         return FrontRead::Broken;
     };
-    let NumberRead::Value(guides, tables) = leb128_reader::read_job_number(job, guides_at) else {
+    let NumberRead::Value(guides, tables) = job_number_reader::read_job_number(job, guides_at)
+    else {
         return FrontRead::Broken;
     };
     if MAX_GUIDES < guides {
@@ -74,13 +75,13 @@ fn read_rounds(
 fn read_ends(job: &[u8], plan: usize, end: usize) -> FrontRead
     ensures { λ r. ⌜ r ≡ ends (now (job .entry)) plan end ⌝ }
 {
-    let NumberRead::Value(start, goal_at) = leb128_reader::read_job_number(job, end) else {
+    let NumberRead::Value(start, goal_at) = job_number_reader::read_job_number(job, end) else {
         return FrontRead::Broken;
     };
-    let NumberRead::Value(goal, budget_at) = leb128_reader::read_job_number(job, goal_at) else {
+    let NumberRead::Value(goal, budget_at) = job_number_reader::read_job_number(job, goal_at) else {
         return FrontRead::Broken;
     };
-    let NumberRead::Value(budget, at) = leb128_reader::read_job_number(job, budget_at) else {
+    let NumberRead::Value(budget, at) = job_number_reader::read_job_number(job, budget_at) else {
         return FrontRead::Broken;
     };
     read_rounds(job, plan, end, start, goal, budget, at)
@@ -90,7 +91,7 @@ fn read_ends(job: &[u8], plan: usize, end: usize) -> FrontRead
 pub fn read_front(job: &[u8]) -> FrontRead
     ensures { λ r. ⌜ r ≡ front (now (job .entry)) ⌝ }
 {
-    let NumberRead::Value(size, plan) = leb128_reader::read_job_number(job, 0) else {
+    let NumberRead::Value(size, plan) = job_number_reader::read_job_number(job, 0) else {
         return FrontRead::Broken;
     };
     let end = plan + size as usize;

@@ -21,7 +21,7 @@ pub fn past(job: &[u8], at: usize, count: usize) -> NumbersRead
     let mut end = at;
     let mut left = count;
     while 0 < left {
-        let NumberRead::Value(_, next) = leb128_reader::read_job_number(job, end) else {
+        let NumberRead::Value(_, next) = job_number_reader::read_job_number(job, end) else {
             return NumbersRead::Malformed;
         };
         end = next;
@@ -36,7 +36,7 @@ fn store_one(job: &[u8], at: usize, into: &mut [u32], i: usize) -> usize
     ensures { λ r. ⌜ r ≡ after at (read jobGroups (now (job .entry)) at) ⌝ }
     ensures { λ r. ⌜ now (into .exit) ≡ storedAt i (now (into .entry)) (read jobGroups (now (job .entry)) at) ⌝ }
 {
-    let NumberRead::Value(value, next) = leb128_reader::read_job_number(job, at) else {
+    let NumberRead::Value(value, next) = job_number_reader::read_job_number(job, at) else {
         return at;
     };
     into[i] = value;

@@ -1,13 +1,13 @@
 -- `check` meets its contract: the header, then the edges. Assumes nothing.
-use Rattle.cursor.proofs.Reading.{check-header, check-rest}
+use Rattle.plan_header.proofs.Reading.{check-header, check-rest}
 use borrow.Author.Needs.{needs}
 use Rattle.graph_check.proofs.check.Statement.{statement}
 use Rattle.graph_check.proofs.check.Tie as tie
 use Rattle.graph_check.proofs.check.Reads as reads
 use Rattle.graph_check.proofs.check.Lts as lts
 use Rattle.graph_check.proofs.check_edges.Reads as check-edges-reads
-use Rattle.graph_check.proofs.header.Reads as header-reads
-use Rattle.graph_check.proofs.header_refusal.Reads as header-refusal-reads
+use Rattle.plan_header.proofs.header.Reads as header-reads
+use Rattle.plan_header.proofs.header_refusal.Reads as header-refusal-reads
 
 header-requires : tie.Need-header-requires
 header-requires c κs = search needs

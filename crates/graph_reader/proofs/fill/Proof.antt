@@ -4,8 +4,7 @@ use mathlib.Core.Path.{_≡_, refl, sym, _∙_}
 use native.Mathlib.Omega.{arith}
 use borrow.Author.Needs.{needs}
 use Rattle.graph.specs.Lists.{tailOf, headOf, costOf}
-use Rattle.cursor.proofs.Stored.{stepped}
-use Rattle.graph_reader.proofs.Filling.{Filled, filled-none, filled-next, filled-all}
+use Rattle.graph_reader.proofs.Filling.{Filled, stepped, filled-none, filled-next, filled-all}
 use Rattle.graph_reader.proofs.fill.Statement.{statement}
 use Rattle.graph_reader.proofs.fill.Tie as tie
 use Rattle.graph_reader.proofs.fill.Reads as reads

@@ -1,8 +1,8 @@
 -- `read` meets its contract: the plan is checked, then the room, and only then the lists are filled. Assumes nothing.
 use mathlib.Core.Path.{sym, ap, _∙_}
-use Rattle.cursor.specs.Steps.{planRefusal}
+use Rattle.plan_header.specs.Steps.{planRefusal}
 use Rattle.graph.proofs.Tests.{not-true, not-false}
-use Rattle.cursor.proofs.Reading.{check-header, check-rest}
+use Rattle.plan_header.proofs.Reading.{check-header, check-rest}
 use Rattle.cursor.proofs.Stored.{checked-sizes}
 use Rattle.graph_reader.proofs.Filling.{room-each, out-refused, out-short, out-read}
 use borrow.Author.Needs.{needs}
@@ -11,8 +11,8 @@ use Rattle.graph_reader.proofs.read.Tie as tie
 use Rattle.graph_reader.proofs.read.Reads as reads
 use Rattle.graph_reader.proofs.read.Lts as lts
 use Rattle.graph_check.proofs.check_edges.Reads as check-edges-reads
-use Rattle.graph_check.proofs.header.Reads as header-reads
-use Rattle.graph_check.proofs.header_refusal.Reads as header-refusal-reads
+use Rattle.plan_header.proofs.header.Reads as header-reads
+use Rattle.plan_header.proofs.header_refusal.Reads as header-refusal-reads
 use Rattle.graph_reader.proofs.fill.Reads as fill-reads
 use Rattle.graph_reader.proofs.has_room.Reads as has-room-reads
 

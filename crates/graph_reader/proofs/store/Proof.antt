@@ -8,7 +8,7 @@ use Rattle.graph_reader.proofs.store.Statement.{statement}
 use Rattle.graph_reader.proofs.store.Tie as tie
 use Rattle.graph_reader.proofs.store.Reads as reads
 use Rattle.graph_reader.proofs.store.Lts as lts
-use Rattle.cursor.proofs.step_checked.Reads as step-checked-reads
+use Rattle.graph_reader.proofs.checked.step_checked.Reads as step-checked-reads
 
 step-checked-requires : tie.Need-step-checked-requires
 step-checked-requires c κs = c .before .before .before .before .pre .1 .1 .1

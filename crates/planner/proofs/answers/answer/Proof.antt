@@ -6,7 +6,7 @@ use Rattle.planner.proofs.answers.answer.Statement.{statement}
 use Rattle.planner.proofs.answers.answer.Tie as tie
 use Rattle.planner.proofs.answers.answer.Reads as reads
 use Rattle.planner.proofs.answers.answer.Lts as lts
-use Rattle.graph_check.proofs.header.Reads as header-reads
+use Rattle.plan_header.proofs.header.Reads as header-reads
 use Rattle.stages.proofs.begin.begin.Reads as begin-reads
 use Rattle.stages.proofs.finish.finish.Reads as finish-reads
 use Rattle.running.proofs.run.Reads as run-reads

@@ -7,11 +7,11 @@ use borrow.Author.Needs.{needs}
 use Prim.Native.Nat.{ℕ, suc, _+_, _-_, _<_}
 use borrow.Fn.Kinds.{In}
 use borrow.Fn.PlainCycle.{Measures, is, falls, and}
-use Rattle.leb128_reader.proofs.read_groups.Reads as read-groups
-use Rattle.leb128_reader.proofs.read_groups.Kinds as read-groups-kinds
-use Rattle.leb128_reader.proofs.+read_groups.Lts-read_groups as read-groups-lts
-use Rattle.leb128_reader.proofs.+read_groups.{statement}
-use Rattle.leb128_reader.proofs.+read_groups.Tie.{close}
+use Rattle.job_number_reader.proofs.read_groups.Reads as read-groups
+use Rattle.job_number_reader.proofs.read_groups.Kinds as read-groups-kinds
+use Rattle.job_number_reader.proofs.+read_groups.Lts-read_groups as read-groups-lts
+use Rattle.job_number_reader.proofs.+read_groups.{statement}
+use Rattle.job_number_reader.proofs.+read_groups.Tie.{close}
 
 abbrev μ-read-groups : Measures 1 read-groups-kinds.ps ℕ
 μ-read-groups κs a = a .1 .1 .0

@@ -1,11 +1,11 @@
 -- `header_refusal` meets its contract. Assumes nothing.
 use mathlib.Core.Path.{sym, ap}
-use Rattle.cursor.specs.Steps.{planRefusal}
+use Rattle.plan_header.specs.Steps.{planRefusal}
 use borrow.Author.Needs.{needs}
-use Rattle.graph_check.proofs.header_refusal.Statement.{statement}
-use Rattle.graph_check.proofs.header_refusal.Tie as tie
-use Rattle.graph_check.proofs.header_refusal.Reads as reads
-use Rattle.graph_check.proofs.header_refusal.Lts as lts
+use Rattle.plan_header.proofs.header_refusal.Statement.{statement}
+use Rattle.plan_header.proofs.header_refusal.Tie as tie
+use Rattle.plan_header.proofs.header_refusal.Reads as reads
+use Rattle.plan_header.proofs.header_refusal.Lts as lts
 
 enum-told : tie.Need-enum-told
 enum-told c = search needs

@@ -1,11 +1,11 @@
 -- `header_fault` meets its contract. Assumes nothing.
 use mathlib.Core.Path.{sym, ap}
-use Rattle.cursor.specs.Steps.{headerRefusal}
+use Rattle.plan_header.specs.Steps.{headerRefusal}
 use borrow.Author.Needs.{needs}
-use Rattle.graph_check.proofs.header_fault.Statement.{statement}
-use Rattle.graph_check.proofs.header_fault.Tie as tie
-use Rattle.graph_check.proofs.header_fault.Reads as reads
-use Rattle.graph_check.proofs.header_fault.Lts as lts
+use Rattle.plan_header.proofs.header_fault.Statement.{statement}
+use Rattle.plan_header.proofs.header_fault.Tie as tie
+use Rattle.plan_header.proofs.header_fault.Reads as reads
+use Rattle.plan_header.proofs.header_fault.Lts as lts
 
 enum-told : tie.Need-enum-told
 enum-told c = search needs

@@ -1,14 +1,14 @@
 -- `header` meets its contract: V, then M. Assumes nothing.
 use mathlib.Core.Path.{sym, _∙_}
-use Rattle.cursor.proofs.Reading.{header-vertices, header-edges, header-counts}
+use Rattle.plan_header.proofs.Reading.{header-vertices, header-edges, header-counts}
 use borrow.Author.Needs.{needs}
-use Rattle.graph_check.proofs.header.Statement.{statement}
-use Rattle.graph_check.proofs.header.Tie as tie
-use Rattle.graph_check.proofs.header.Reads as reads
-use Rattle.graph_check.proofs.header.Lts as lts
-use Rattle.graph_check.proofs.header_fault.Reads as header-fault-reads
-use Rattle.graph_check.proofs.take_edge_count.Reads as take-edge-count-reads
-use Rattle.graph_check.proofs.take_vertex_count.Reads as take-vertex-count-reads
+use Rattle.plan_header.proofs.header.Statement.{statement}
+use Rattle.plan_header.proofs.header.Tie as tie
+use Rattle.plan_header.proofs.header.Reads as reads
+use Rattle.plan_header.proofs.header.Lts as lts
+use Rattle.plan_header.proofs.header_fault.Reads as header-fault-reads
+use Rattle.plan_header.proofs.take_edge_count.Reads as take-edge-count-reads
+use Rattle.plan_header.proofs.take_vertex_count.Reads as take-vertex-count-reads
 
 take-vertex-count-requires : tie.Need-take-vertex-count-requires
 take-vertex-count-requires c κs = search needs

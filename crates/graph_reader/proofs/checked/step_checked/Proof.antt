@@ -1,13 +1,13 @@
 -- `step_checked` meets its contract: three numbers that pass their rows. Assumes nothing.
 use mathlib.Core.Path.{sym, _∙_, refl}
 use native.Mathlib.Omega.{arith}
-use Rattle.cursor.proofs.Checked.{tail-there, tail-taken, head-there, head-taken, cost-there, cost-taken}
+use Rattle.graph_reader.proofs.Passing.{tail-there, tail-taken, head-there, head-taken, cost-there, cost-taken}
 use Rattle.cursor.proofs.Reading.{taken-tail, taken-head, step-edge}
 use borrow.Author.Needs.{needs}
-use Rattle.cursor.proofs.step_checked.Statement.{statement}
-use Rattle.cursor.proofs.step_checked.Tie as tie
-use Rattle.cursor.proofs.step_checked.Reads as reads
-use Rattle.cursor.proofs.step_checked.Lts as lts
+use Rattle.graph_reader.proofs.checked.step_checked.Statement.{statement}
+use Rattle.graph_reader.proofs.checked.step_checked.Tie as tie
+use Rattle.graph_reader.proofs.checked.step_checked.Reads as reads
+use Rattle.graph_reader.proofs.checked.step_checked.Lts as lts
 use Rattle.leb128_reader.proofs.read_plan_number.Reads as read-plan-number-reads
 
 read-plan-number-requires : tie.Need-read-plan-number-requires

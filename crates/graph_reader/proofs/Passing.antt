@@ -12,7 +12,7 @@ use Rattle.graph.specs.declared.Cursor.{Cursor}
 use Rattle.graph.specs.declared.Taken.the-variants.{Number}
 use Rattle.graph.specs.Rows.{Row, take, tailRows, headRows, costRows}
 use Rattle.graph.specs.Plan.{leastAfter, past}
-use Rattle.cursor.specs.Steps.{Stepped}
+use Rattle.graph_reader.specs.Steps.{Stepped}
 use Rattle.graph.proofs.Rows.{Passes, Passed, passed-take}
 use Rattle.graph.proofs.OneEdge.{Read, read-edge}
 
