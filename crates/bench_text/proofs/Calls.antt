@@ -10,10 +10,10 @@ use lib.Seq.{sets, sets-eq, length-sets, length-take-le, take-at, take-all}
 use Rattle.search.specs.declared.Answer.{Answer}
 use Rattle.search.specs.Call.{Call}
 use Rattle.search.specs.Outcome.{figures, answer, memoryAfter}
-use Rattle.job_front.specs.declared.Front.{Front}
+use Rattle.job.specs.declared.Front.{Front}
 use Rattle.job.specs.declared.JobRead.the-variants.{Accepted}
 use Rattle.job.specs.Reading.{jobRead, planOf, tableCount}
-use Rattle.job_numbers.specs.Numbers.{values}
+use Rattle.job.specs.Numbers.{values}
 use Rattle.job.specs.Asked.{scheduleOf, tablesOf, anchorOf, sheetsOf, callWith, callOf}
 use Rattle.job.specs.Printed.{printed, callText}
 use Rattle.job.proofs.Accepted.{Ready, accepted-ready}

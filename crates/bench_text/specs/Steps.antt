@@ -2,7 +2,7 @@
 use Prim.Native.Nat.{ℕ}
 use mathlib.Core.Path.{_≡_}
 use mathlib.Core.List.{List}
-use Rattle.job_front.specs.declared.Front.{Front}
+use Rattle.job.specs.declared.Front.{Front}
 use Rattle.job.specs.declared.JobRead.the-variants.{Accepted}
 use Rattle.job.specs.Reading.{jobRead}
 use Rattle.job.specs.Asked.{scheduleOf, tablesOf}

@@ -6,7 +6,7 @@ ghost use Rattle.job.specs.Asked.{callWith, callOf};
 ghost use Rattle.job.specs.Printed.{callText};
 ghost use Rattle.answer_text.specs.Shown.{Texts};
 ghost use Rattle.bench_text.specs.Steps.{Stored};
-use job_front::Front;
+use job::Front;
 
 // Words of lent memory: a schedule of 16 rounds, an anchor table and 8 guide sheets of 256 numbers; route
 // memory, a log, and work memory for 256 vertices and 2,048 edges.

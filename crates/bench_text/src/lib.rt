@@ -10,7 +10,7 @@ use job::JobRead;
 pub fn bench_text(job: &[u8], out: &mut [u8]) -> usize
     ensures { λ r. ⌜ Texts (benchText (now (job .entry))) (now (out .entry)) r (now (out .exit)) ⌝ }
 {
-    match job::read(job) {
+    match job_reader::read(job) {
         JobRead::Accepted(front, vertices) => asked::put_job(out, job, front, vertices),
         JobRead::Refused(n, p) => answer_text::put_refused(out, n, p),
     }

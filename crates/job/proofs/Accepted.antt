@@ -13,19 +13,19 @@ use Rattle.graph.specs.declared.PlanRead.{PlanRead}
 use Rattle.graph.specs.declared.PlanRead.the-variants as checked
 use Rattle.graph.specs.Plan.{decode, sizes}
 use Rattle.graph.proofs.Tests.{or-left, or-right}
-use Rattle.job_front.specs.declared.Front.{Front}
-use Rattle.job_numbers.specs.declared.NumbersRead.{NumbersRead}
-use Rattle.job_numbers.specs.declared.NumbersRead.the-variants.{Past, Malformed}
-use Rattle.job_front.specs.declared.FrontRead.{FrontRead}
-use Rattle.job_front.specs.declared.FrontRead.the-variants.{Whole, Broken}
+use Rattle.job.specs.declared.Front.{Front}
+use Rattle.job.specs.declared.NumbersRead.{NumbersRead}
+use Rattle.job.specs.declared.NumbersRead.the-variants.{Past, Malformed}
+use Rattle.job.specs.declared.FrontRead.{FrontRead}
+use Rattle.job.specs.declared.FrontRead.the-variants.{Whole, Broken}
 use Rattle.job.specs.declared.JobRead.{JobRead}
 use Rattle.job.specs.declared.JobRead.the-variants.{Accepted, Refused}
-use Rattle.job_numbers.specs.Numbers.{endOf, values}
-use Rattle.job_front.specs.Front.{maxRounds, maxGuides, rounds, ends, front}
+use Rattle.job.specs.Numbers.{endOf, values}
+use Rattle.job.specs.Front.{maxRounds, maxGuides, rounds, ends, front}
 use Rattle.job.specs.Reading.{maxBytes, maxVertices, maxEdges, planOf, tableCount, afterTables, afterSizes, afterPlan, afterFront, jobRead}
 use Rattle.job.specs.Asked.{scheduleOf, tablesOf}
-use Rattle.job_numbers.proofs.Values.{length-values}
-use Rattle.job_front.proofs.Following.{whole-following, whole-past, whole-cond}
+use Rattle.job.proofs.Values.{length-values}
+use Rattle.job.proofs.Following.{whole-following, whole-past, whole-cond}
 
 -- ---- the front
 

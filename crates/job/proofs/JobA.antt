@@ -14,9 +14,9 @@ use Rattle.search.specs.Rounds.{firstTurn, nextTurn, turned, ended, inHand, ste
 use Rattle.search.specs.Call.{inForce, outOfRange, rising, pairs, row, first, endsRow, tablesRow, scheduleRow, memoryRow, goalRow, edgesRow, faultIn, faultOf, tables, jobIn, jobFrom, jobOf}
 use Rattle.search.specs.Outcome.{bound, summary, cutShort, answerAt, answerOf, figures, routeWords, routeAfter, logWord, logAfter, outcome, answerIn, answer, memoryIn, memoryAfter}
 use Rattle.text.specs.Text.{ascii, digitsIn, digits, field, turnLine, loggedLine, each, turnLines, vertices, routeLine, endLine, unfinishedLine}
-use Rattle.job_numbers.specs.Numbers.{endAfter, endOf, valueBefore, values}
-use Rattle.job_front.specs.Front.{following, rounds, ends, front}
-use Rattle.job_front.specs.Front
+use Rattle.job.specs.Numbers.{endAfter, endOf, valueBefore, values}
+use Rattle.job.specs.Front.{following, rounds, ends, front}
+use Rattle.job.specs.Front
 use Rattle.job.specs.Reading.{planOf, tableCount, afterTables, afterSizes, afterPlan, afterFront, jobRead}
 use Rattle.job.specs.Asked.{scheduleOf, tablesOf, anchorOf, sheetsOf, zeros, callWith, callOf}
 use Rattle.job.specs.Printed.{turns, ending, printed, callText, textOf, benchText}

@@ -1,4 +1,4 @@
--- The call of an accepted job is refused for its own rows alone.
+-- A job is refused for the faults of its plan, and the call of an accepted one for its own rows alone.
 -- Assumes nothing.
 use Prim.Native.Nat.{ℕ, zero, suc, _+_, _-_, _*_, _≤_}
 use native.Mathlib.Omega.{arith}
@@ -16,11 +16,12 @@ use Rattle.graph.specs.Plan.{Decoded, accepted, refused, decode, sizes}
 use Rattle.graph.specs.Lists.{Fault, none, fault}
 use Rattle.search.specs.Job.{house}
 use Rattle.search.specs.Call.{Call, inForce, row, first, endsRow, tablesRow, scheduleRow, memoryRow, goalRow, edgesRow, faultIn, faultOf}
-use Rattle.job_front.specs.declared.Front.{Front}
-use Rattle.job.specs.declared.JobRead.the-variants.{Accepted}
-use Rattle.job.specs.Reading.{maxVertices, maxEdges, planOf, tableCount, jobRead}
+use Rattle.job.specs.declared.Front.{Front}
+use Rattle.job.specs.declared.JobRead.the-variants.{Accepted, Refused}
+use Rattle.job.specs.Front.{front}
+use Rattle.job.specs.Reading.{maxBytes, maxVertices, maxEdges, planOf, tableCount, afterPlan, afterFront, jobRead}
 use Rattle.job.specs.Asked.{tablesOf, anchorOf, sheetsOf, routeSize, workSize, zeros, callWith, callOf}
-use Rattle.job.specs.Refusals.{Own, ends, schedule, goal, edge, OwnRefusals}
+use Rattle.job.specs.Refusals.{Own, ends, schedule, goal, edge, OwnRefusals, PlanRefusals}
 use Rattle.job.proofs.Accepted.{Ready, accepted-ready}
 
 -- ---- rows, downwards
@@ -101,4 +102,15 @@ own-refusals =
     record {
       own = λ s f v n p h q.
           let r : Ready s f v = accepted-ready s f v h in own-by s f v r n p (decode (planOf s f)) (r .sizes) q;
+    }
+
+-- ---- the plan's own
+
+pub plan-refusals : PlanRefusals
+unfolding jobRead afterFront afterPlan
+plan-refusals =
+    record {
+      plan = λ s f n p l h q.
+          ap (λ (b : Bool). cond b (Refused 14 0) (afterFront s (front s))) (le-ltb maxBytes (length s) l) ∙ ap (afterFront s) h
+          ∙ ap (afterPlan s f) q;
     }

@@ -3,8 +3,8 @@ use Prim.Native.Nat.{ℕ, _+_, _*_}
 use mathlib.Core.List.{List}
 use lib.ListN.{take, drop, replicate}
 use Rattle.search.specs.Call.{Memory, Call}
-use Rattle.job_front.specs.declared.Front.{Front}
-use Rattle.job_numbers.specs.Numbers.{values}
+use Rattle.job.specs.declared.Front.{Front}
+use Rattle.job.specs.Numbers.{values}
 use Rattle.job.specs.Reading.{maxVertices, maxEdges, planOf, tableCount}
 
 -- ---- what an accepted job holds, besides its plan

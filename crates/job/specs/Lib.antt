@@ -1,4 +1,6 @@
 -- The definitions that the contracts cite, in reading order.
+pub mod Numbers
+pub mod Front
 pub mod Reading
 pub mod Asked
 pub mod Printed

@@ -1,4 +1,4 @@
--- A bench job's bytes, whole: up to the guide count (`front`, crate `job_front`), the plan in them, then anchor table and guide sheets.
+-- A bench job's bytes, whole: up to the guide count (`front`), the plan in them, then anchor table and guide sheets.
 use Prim.Native.Nat.{ℕ, _+_, _-_, _*_}
 use mathlib.Core.Bool.{cond, _||_}
 use mathlib.Core.List.{List}
@@ -7,13 +7,13 @@ use lib.Dec.{ltb}
 use Rattle.graph.specs.declared.PlanRead.{PlanRead}
 use Rattle.graph.specs.declared.PlanRead.the-variants as checked
 use Rattle.graph.specs.Plan.{decode, sizes}
-use Rattle.job_numbers.specs.declared.NumbersRead.{NumbersRead}
-use Rattle.job_numbers.specs.declared.NumbersRead.the-variants.{Past, Malformed}
-use Rattle.job_numbers.specs.Numbers.{endOf}
-use Rattle.job_front.specs.declared.Front.{Front}
-use Rattle.job_front.specs.declared.FrontRead.{FrontRead}
-use Rattle.job_front.specs.declared.FrontRead.the-variants.{Whole, Broken}
-use Rattle.job_front.specs.Front.{front}
+use Rattle.job.specs.declared.NumbersRead.{NumbersRead}
+use Rattle.job.specs.declared.NumbersRead.the-variants.{Past, Malformed}
+use Rattle.job.specs.Numbers.{endOf}
+use Rattle.job.specs.declared.Front.{Front}
+use Rattle.job.specs.declared.FrontRead.{FrontRead}
+use Rattle.job.specs.declared.FrontRead.the-variants.{Whole, Broken}
+use Rattle.job.specs.Front.{front}
 use Rattle.job.specs.declared.JobRead.{JobRead}
 use Rattle.job.specs.declared.JobRead.the-variants.{Accepted, Refused}
 

@@ -1,69 +1,33 @@
-// Jobs of the bench program, as bytes: plan length, the plan, start, goal, allowance, rounds and factors,
-// guide count, anchor table, guide sheets.
-ghost use mathlib.Core.Path.{_≡_};
-ghost use Rattle.job.specs.Reading.{jobRead, afterPlan, afterSizes};
-use graph::PlanRead;
-use job_front::Front;
-use job_front::FrontRead;
-use job_numbers::NumbersRead;
+// Jobs of the bench program, as bytes: the values that code and definitions share.
 
-// The limits of a job: its bytes, vertices (places) and edges (lanes).
-pub const MAX_BYTES: usize = 32768;
+// The offset past some numbers; or one is missing or of bad form.
+pub enum NumbersRead {
+    Past(usize),
+    Malformed,
+}
 
-pub const MAX_VERTICES: u32 = 256;
+// What stands before the tables: where the plan begins and ends, start, goal, budget (allowance), rounds,
+// where their factors begin, the guide count, and where the tables begin.
+pub struct Front {
+    pub plan: usize,
+    pub end: usize,
+    pub start: u32,
+    pub goal: u32,
+    pub budget: u32,
+    pub rounds: u32,
+    pub factors: usize,
+    pub guides: u32,
+    pub tables: usize,
+}
 
-pub const MAX_EDGES: u32 = 2048;
+// What stands before the tables; or refusal 14.
+pub enum FrontRead {
+    Whole(Front),
+    Broken,
+}
 
 // A job that may be asked, with V of its plan; or a refusal, number and position.
 pub enum JobRead {
     Accepted(Front, u32),
     Refused(u32, usize),
-}
-
-// V, M, and the tables, which end the job.
-fn read_tables(job: &[u8], front: Front, vertices: u32, edges: u32) -> JobRead
-    ensures { λ r. ⌜ r ≡ afterSizes (now (job .entry)) front vertices edges ⌝ }
-{
-    if MAX_VERTICES < vertices {
-        return JobRead::Refused(14, 0);
-    }
-    if MAX_EDGES < edges {
-        return JobRead::Refused(14, 0);
-    }
-    let count = 1 + front.guides as usize;
-    let NumbersRead::Past(end) = job_numbers::past(job, front.tables, count * vertices as usize)
-    else {
-        return JobRead::Refused(14, 0);
-    };
-    if end < job.len() {
-        JobRead::Refused(14, 0)
-    } else {
-        JobRead::Accepted(front, vertices)
-    }
-}
-
-// The job after its plan was checked.
-fn read_plan(job: &[u8], front: Front, checked: PlanRead) -> JobRead
-    ensures { λ r. ⌜ r ≡ afterPlan (now (job .entry)) front checked ⌝ }
-{
-    match checked {
-        PlanRead::Sizes(vertices, edges) => read_tables(job, front, vertices, edges),
-        PlanRead::Refused(n, p) => JobRead::Refused(n, p),
-    }
-}
-
-// The whole job.
-pub fn read(job: &[u8]) -> JobRead
-    ensures { λ r. ⌜ r ≡ jobRead (now (job .entry)) ⌝ }
-{
-    if MAX_BYTES < job.len() {
-        return JobRead::Refused(14, 0);
-    }
-    let FrontRead::Whole(front) = job_front::read_front(job) else {
-        return JobRead::Refused(14, 0);
-    };
-    let plan = front.plan;
-    let end = front.end;
-    let checked = graph_check::check(&job[plan..end]);
-    read_plan(job, front, checked)
 }

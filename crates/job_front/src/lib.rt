@@ -1,34 +1,16 @@
 // Jobs of the bench program, as bytes, up to the guide count: plan length, the plan, start, goal, allowance,
 // rounds and factors, guide count.
 ghost use mathlib.Core.Path.{_≡_};
-ghost use Rattle.job_front.specs.Front.{front, ends, rounds};
-use job_numbers::NumbersRead;
+ghost use Rattle.job.specs.Front.{front, ends, rounds};
+use job::Front;
+use job::FrontRead;
+use job::NumbersRead;
 use leb128::NumberRead;
 
 // The limits of a job: its rounds and guides.
 pub const MAX_ROUNDS: u32 = 16;
 
 pub const MAX_GUIDES: u32 = 8;
-
-// What stands before the tables: where the plan begins and ends, start, goal, budget (allowance), rounds,
-// where their factors begin, the guide count, and where the tables begin.
-pub struct Front {
-    pub plan: usize,
-    pub end: usize,
-    pub start: u32,
-    pub goal: u32,
-    pub budget: u32,
-    pub rounds: u32,
-    pub factors: usize,
-    pub guides: u32,
-    pub tables: usize,
-}
-
-// What stands before the tables; or refusal 14.
-pub enum FrontRead {
-    Whole(Front),
-    Broken,
-}
 
 // Rounds and factors, and the guide count.
 fn read_rounds(

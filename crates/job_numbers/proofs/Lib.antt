@@ -1,2 +1,1 @@
--- The laws that other crates may cite.
-pub mod Values
+pub mod Storing

@@ -4,15 +4,10 @@ ghost use mathlib.Core.Path.{_≡_};
 ghost use lib.ListN.{length};
 ghost use lib.Seq.{sets};
 ghost use Rattle.leb128.specs.Number.{read, jobGroups};
-ghost use Rattle.job_numbers.specs.Numbers.{endOf, values};
+ghost use Rattle.job.specs.Numbers.{endOf, values};
 ghost use Rattle.job_numbers.specs.Steps.{after, storedAt};
+use job::NumbersRead;
 use leb128::NumberRead;
-
-// The offset past some numbers; or one is missing or of bad form.
-pub enum NumbersRead {
-    Past(usize),
-    Malformed,
-}
 
 // The offset past so many numbers.
 pub fn past(job: &[u8], at: usize, count: usize) -> NumbersRead

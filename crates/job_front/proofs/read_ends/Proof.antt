@@ -1,6 +1,6 @@
 -- `read_ends` meets its contract: start, goal and budget, one after another. Assumes nothing.
-use Rattle.job_front.specs.Front.{ends}
-use Rattle.job_front.proofs.Following.{follows, follows-none}
+use Rattle.job.specs.Front.{ends}
+use Rattle.job.proofs.Following.{follows, follows-none}
 use borrow.Author.Needs.{needs}
 use Rattle.job_front.proofs.read_ends.Statement.{statement}
 use Rattle.job_front.proofs.read_ends.Tie as tie

@@ -4,8 +4,8 @@ use native.Mathlib.Omega.{arith}
 use borrow.Author.Tests.{lt-ltb, le-ltb}
 use Rattle.leb128.specs.Number.{jobGroups}
 use Rattle.leb128.proofs.Laws.{value-within}
-use Rattle.job_front.specs.Front.{front}
-use Rattle.job_front.proofs.Following.{follows, follows-none, holds, fails}
+use Rattle.job.specs.Front.{front}
+use Rattle.job.proofs.Following.{follows, follows-none, holds, fails}
 use borrow.Author.Needs.{needs}
 use Rattle.job_front.proofs.read_front.Statement.{statement}
 use Rattle.job_front.proofs.read_front.Tie as tie

@@ -1,8 +1,8 @@
 -- `read_rounds` meets its contract: rounds, factors and the guide count, one after another. Assumes nothing.
 use mathlib.Core.Path.{refl}
 use borrow.Author.Tests.{lt-ltb, le-ltb}
-use Rattle.job_front.specs.Front.{rounds}
-use Rattle.job_front.proofs.Following.{follows, follows-none, passes, passes-none, holds, fails}
+use Rattle.job.specs.Front.{rounds}
+use Rattle.job.proofs.Following.{follows, follows-none, passes, passes-none, holds, fails}
 use borrow.Author.Needs.{needs}
 use Rattle.job_front.proofs.read_rounds.Statement.{statement}
 use Rattle.job_front.proofs.read_rounds.Tie as tie

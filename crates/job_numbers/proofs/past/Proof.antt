@@ -2,8 +2,8 @@
 use mathlib.Core.Path.{_≡_, refl, sym, _∙_}
 use native.Mathlib.Omega.{arith}
 use borrow.Author.Needs.{needs}
-use Rattle.job_numbers.specs.Numbers.{endOf}
-use Rattle.job_numbers.proofs.Values.{end-next, end-refused, end-none}
+use Rattle.job.specs.Numbers.{endOf}
+use Rattle.job.proofs.Values.{end-next, end-refused, end-none}
 use Rattle.job_numbers.proofs.past.Statement.{statement}
 use Rattle.job_numbers.proofs.past.Tie as tie
 

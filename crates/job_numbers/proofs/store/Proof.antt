@@ -2,8 +2,8 @@
 use Prim.Native.Nat.{_-_}
 use native.Mathlib.Omega.{arith}
 use lib.Seq.{sets}
-use Rattle.job_numbers.specs.Numbers.{values}
-use Rattle.job_numbers.proofs.Values.{Storing, storing-none, storing-next, storing-all}
+use Rattle.job.specs.Numbers.{values}
+use Rattle.job_numbers.proofs.Storing.{Storing, storing-none, storing-next, storing-all}
 use Rattle.job_numbers.proofs.store.Statement.{statement}
 use Rattle.job_numbers.proofs.store.Tie as tie
 

@@ -4,10 +4,10 @@ use native.Mathlib.Omega.{arith}
 use native.Mathlib.Nat.{mul-le-mul-left}
 use mathlib.Core.Path.{sym, _∙_}
 use borrow.Author.Tests.{lt-ltb, le-ltb}
 use Rattle.job.specs.Reading.{tableCount, afterTables, afterSizes}
 use borrow.Author.Needs.{needs}
-use Rattle.job.proofs.read_tables.Statement.{statement}
-use Rattle.job.proofs.read_tables.Tie as tie
+use Rattle.job_reader.proofs.read_tables.Statement.{statement}
+use Rattle.job_reader.proofs.read_tables.Tie as tie
 
 returns : tie.Need-returns
 unfolding afterSizes afterTables tableCount

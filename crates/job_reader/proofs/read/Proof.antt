@@ -1,12 +1,12 @@
 -- `read` meets its contract: its length, its front, its plan, its tables. Assumes nothing.
 use mathlib.Core.Path.{sym, ap, _∙_}
 use borrow.Author.Tests.{lt-ltb, le-ltb}
 use Rattle.job.specs.Reading.{planOf, afterPlan, afterFront, jobRead}
-use Rattle.job_front.proofs.Following.{holds, fails}
+use Rattle.job.proofs.Following.{holds, fails}
 use Rattle.job.proofs.Accepted.{front-fits}
 use borrow.Author.Needs.{needs}
-use Rattle.job.proofs.read.Statement.{statement}
-use Rattle.job.proofs.read.Tie as tie
+use Rattle.job_reader.proofs.read.Statement.{statement}
+use Rattle.job_reader.proofs.read.Tie as tie
 
 returns : tie.Need-returns
 unfolding jobRead afterFront planOf

@@ -4,8 +4,8 @@ use mathlib.Core.List.{List, [], _∷_}
 use Rattle.leb128.specs.Number.{read, jobGroups}
 use Rattle.leb128.specs.declared.NumberRead.{NumberRead}
 use Rattle.leb128.specs.declared.NumberRead.the-variants.{Value, Refused}
-use Rattle.job_numbers.specs.declared.NumbersRead.{NumbersRead}
-use Rattle.job_numbers.specs.declared.NumbersRead.the-variants.{Past, Malformed}
+use Rattle.job.specs.declared.NumbersRead.{NumbersRead}
+use Rattle.job.specs.declared.NumbersRead.the-variants.{Past, Malformed}
 
 -- the offset past n numbers; or one of them is missing or of bad form
 unfoldable pub endAfter : (ℕ → NumbersRead) → NumberRead → NumbersRead

@@ -6,12 +6,12 @@ use mathlib.Core.Path.{_≡_, refl, sym, ap, _∙_}
 use mathlib.Core.Bool.{Bool, true, false, cond}
 use Rattle.leb128.specs.declared.NumberRead.{NumberRead}
 use Rattle.leb128.specs.declared.NumberRead.the-variants.{Value, Refused}
-use Rattle.job_front.specs.declared.Front.{Front}
-use Rattle.job_numbers.specs.declared.NumbersRead.{NumbersRead}
-use Rattle.job_numbers.specs.declared.NumbersRead.the-variants.{Past, Malformed}
-use Rattle.job_front.specs.declared.FrontRead.{FrontRead}
-use Rattle.job_front.specs.declared.FrontRead.the-variants.{Whole, Broken}
-use Rattle.job_front.specs.Front.{following, past}
+use Rattle.job.specs.declared.Front.{Front}
+use Rattle.job.specs.declared.NumbersRead.{NumbersRead}
+use Rattle.job.specs.declared.NumbersRead.the-variants.{Past, Malformed}
+use Rattle.job.specs.declared.FrontRead.{FrontRead}
+use Rattle.job.specs.declared.FrontRead.the-variants.{Whole, Broken}
+use Rattle.job.specs.Front.{following, past}
 
 -- ---- for the code that reads on
 

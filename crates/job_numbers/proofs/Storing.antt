@@ -1,4 +1,4 @@
--- Laws of numbers one after another: one number fewer to come, how many values there are, and memory as they are stored.
+-- Laws of memory as numbers are stored one after another.
 -- Assumes nothing.
 use Prim.Native.Nat.{ℕ, zero, suc, _+_, _-_, _<_, _≤_}
 use native.Mathlib.Omega.{arith}
@@ -9,52 +9,11 @@ use lib.Seq.{sets}
 use Rattle.leb128.specs.Number.{read, jobGroups}
 use Rattle.leb128.specs.declared.NumberRead.{NumberRead}
 use Rattle.leb128.specs.declared.NumberRead.the-variants.{Value, Refused}
-use Rattle.job_numbers.specs.declared.NumbersRead.{NumbersRead}
-use Rattle.job_numbers.specs.declared.NumbersRead.the-variants.{Past, Malformed}
-use Rattle.job_numbers.specs.Numbers.{endAfter, endOf, valueBefore, values}
+use Rattle.job.specs.Numbers.{valueBefore, values}
+use Rattle.job.proofs.Values.{values-refused}
 use Rattle.job_numbers.specs.Steps.{after, storedAt}
 
--- ---- where they end: the numbers left from p on end where all do
-
-module _ (s : List ℕ) (whole : NumbersRead) where
-  pub end-next :
-      (left p x next : ℕ) → 0 < left → whole ≡ endOf left s p → read jobGroups s p ≡ Value x next → whole ≡ endOf (left - 1) s next
-  unfolding endOf endAfter
-  end-next zero p x next l h e = absurd (omega arith)
-  end-next (suc k) p x next l h e =
-      let k′ : k ≡ suc k - 1 = omega arith in h ∙ ap (endAfter (endOf k s)) e ∙ ap (λ (n : ℕ). endOf n s next) k′
-
-  pub end-refused : (left p q : ℕ) → 0 < left → whole ≡ endOf left s p → read jobGroups s p ≡ Refused q → Malformed ≡ whole
-  unfolding endOf endAfter
-  end-refused zero p q l h e = absurd (omega arith)
-  end-refused (suc k) p q l h e = sym (h ∙ ap (endAfter (endOf k s)) e)
-
-  pub end-none : (left p : ℕ) → left ≡ 0 → whole ≡ endOf left s p → Past p ≡ whole
-  unfolding endOf
-  end-none left p z h = sym (h ∙ ap (λ (n : ℕ). endOf n s p) z)
-
--- ---- their values
-
-values-refused : (n : ℕ) (s : List ℕ) (p q : ℕ) → read jobGroups s p ≡ Refused q → values n s p ≡ []
-unfolding values valueBefore
-values-refused zero s p q e = refl
-values-refused (suc n) s p q e = ap (valueBefore (values n s)) e
-
--- there are as many as asked, where none is missing or of bad form
-module _ (s : List ℕ) (end : ℕ) where
-  length-by :
-      (n : ℕ) → ((at : ℕ) → endOf n s at ≡ Past end → length (values n s at) ≡ n) → (r : NumberRead) →
-      endAfter (endOf n s) r ≡ Past end → length (valueBefore (values n s) r) ≡ suc n
-  unfolding endAfter valueBefore
-  length-by n f (Value x next) h = ap suc (f next h)
-  length-by n f (Refused p) h = let z : _≡_ {A = ℕ} 0 1 = cc in absurd (omega arith)
-
-  pub length-values : (n at : ℕ) → endOf n s at ≡ Past end → length (values n s at) ≡ n
-  unfolding endOf values
-  length-values zero at h = refl
-  length-values (suc n) at h = length-by n (length-values n) (read jobGroups s at) h
-
--- ---- memory as they are stored: what is to come from here, stored from here on, gives what the whole gives
+-- what is to come from here, stored from here on, gives what the whole gives
 
 pub record Storing (s : List ℕ) (count : ℕ) (old whole : List ℕ) (i next : ℕ) (now : List ℕ) : Type 0 where
   pub rest : whole ≡ sets now i (values (count - i) s next)

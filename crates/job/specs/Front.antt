@@ -7,11 +7,11 @@ use lib.Dec.{ltb}
 use Rattle.leb128.specs.Number.{read, jobGroups}
 use Rattle.leb128.specs.declared.NumberRead.{NumberRead}
 use Rattle.leb128.specs.declared.NumberRead.the-variants as number
-use Rattle.job_numbers.specs.declared.NumbersRead.{NumbersRead}
-use Rattle.job_numbers.specs.declared.NumbersRead.the-variants.{Past, Malformed}
-use Rattle.job_numbers.specs.Numbers.{endOf}
-use Rattle.job_front.specs.declared.FrontRead.{FrontRead}
-use Rattle.job_front.specs.declared.FrontRead.the-variants.{Whole, Broken}
+use Rattle.job.specs.declared.NumbersRead.{NumbersRead}
+use Rattle.job.specs.declared.NumbersRead.the-variants.{Past, Malformed}
+use Rattle.job.specs.Numbers.{endOf}
+use Rattle.job.specs.declared.FrontRead.{FrontRead}
+use Rattle.job.specs.declared.FrontRead.the-variants.{Whole, Broken}
 
 -- ---- limits
 

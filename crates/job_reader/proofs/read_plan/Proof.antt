@@ -1,8 +1,8 @@
 -- `read_plan` meets its contract, by the plan's cases. Assumes nothing.
 use Rattle.job.specs.Reading.{afterPlan}
 use borrow.Author.Needs.{needs}
-use Rattle.job.proofs.read_plan.Statement.{statement}
-use Rattle.job.proofs.read_plan.Tie as tie
+use Rattle.job_reader.proofs.read_plan.Statement.{statement}
+use Rattle.job_reader.proofs.read_plan.Tie as tie
 
 enum-known-checked : tie.Need-enum-known-checked
 enum-known-checked c = search needs

@@ -1,2 +1,0 @@
--- The laws that other crates may cite.
-pub mod Following

@@ -1,0 +1,64 @@
+// Jobs of the bench program, as bytes: plan length, the plan, start, goal, allowance, rounds and factors,
+// guide count, anchor table, guide sheets.
+ghost use mathlib.Core.Path.{_≡_};
+ghost use Rattle.job.specs.Reading.{jobRead, afterPlan, afterSizes};
+use graph::PlanRead;
+use job::Front;
+use job::FrontRead;
+use job::JobRead;
+use job::NumbersRead;
+
+// The limits of a job: its bytes, vertices (places) and edges (lanes).
+pub const MAX_BYTES: usize = 32768;
+
+pub const MAX_VERTICES: u32 = 256;
+
+pub const MAX_EDGES: u32 = 2048;
+
+// V, M, and the tables, which end the job.
+fn read_tables(job: &[u8], front: Front, vertices: u32, edges: u32) -> JobRead
+    ensures { λ r. ⌜ r ≡ afterSizes (now (job .entry)) front vertices edges ⌝ }
+{
+    if MAX_VERTICES < vertices {
+        return JobRead::Refused(14, 0);
+    }
+    if MAX_EDGES < edges {
+        return JobRead::Refused(14, 0);
+    }
+    let count = 1 + front.guides as usize;
+    let NumbersRead::Past(end) = job_numbers::past(job, front.tables, count * vertices as usize)
+    else {
+        return JobRead::Refused(14, 0);
+    };
+    if end < job.len() {
+        JobRead::Refused(14, 0)
+    } else {
+        JobRead::Accepted(front, vertices)
+    }
+}
+
+// The job after its plan was checked.
+fn read_plan(job: &[u8], front: Front, checked: PlanRead) -> JobRead
+    ensures { λ r. ⌜ r ≡ afterPlan (now (job .entry)) front checked ⌝ }
+{
+    match checked {
+        PlanRead::Sizes(vertices, edges) => read_tables(job, front, vertices, edges),
+        PlanRead::Refused(n, p) => JobRead::Refused(n, p),
+    }
+}
+
+// The whole job.
+pub fn read(job: &[u8]) -> JobRead
+    ensures { λ r. ⌜ r ≡ jobRead (now (job .entry)) ⌝ }
+{
+    if MAX_BYTES < job.len() {
+        return JobRead::Refused(14, 0);
+    }
+    let FrontRead::Whole(front) = job_front::read_front(job) else {
+        return JobRead::Refused(14, 0);
+    };
+    let plan = front.plan;
+    let end = front.end;
+    let checked = graph_check::check(&job[plan..end]);
+    read_plan(job, front, checked)
+}
