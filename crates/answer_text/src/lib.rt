@@ -1,6 +1,7 @@
 // The answer of a planner call, with its route and log, as printed lines in a lent buffer.
 ghost use Rattle.search.specs.declared.Answer.the-variants.{Route, NoRoute, Unfinished, Refused};
-ghost use Rattle.answer_text.specs.Shown.{Lent, Shown, Refuses};
+ghost use Rattle.job.specs.Texts.{Lent};
+ghost use Rattle.answer_text.specs.Shown.{Shown, Refuses};
 use search::Answer;
 use search::Summary;
 
@@ -29,7 +30,7 @@ fn put_no_route(out: &mut [u8], turns: u32, route: &[u32], log: &[u32]) -> usize
     ensures { λ r. ⌜ Shown (NoRoute turns) (now (route .entry)) (now (log .entry)) (now (out .entry)) r (now (out .exit)) ⌝ }
 {
     let at = lines::put_turn_lines(out, 0, log, turns as usize);
-    end_lines::put_no_route_line(out, at, turns as u64)
+    end_lines::put_turns_line(out, at, b"no route turns ", turns as u64)
 }
 
 // Unfinished: the turn lines, and the line that says so.
@@ -38,7 +39,7 @@ fn put_unfinished(out: &mut [u8], turns: u32, route: &[u32], log: &[u32]) -> usi
     ensures { λ r. ⌜ Shown (Unfinished turns) (now (route .entry)) (now (log .entry)) (now (out .entry)) r (now (out .exit)) ⌝ }
 {
     let at = lines::put_turn_lines(out, 0, log, turns as usize);
-    end_lines::put_unfinished_line(out, at, turns as u64)
+    end_lines::put_turns_line(out, at, b"unfinished turns ", turns as u64)
 }
 
 // A refusal: only its line.

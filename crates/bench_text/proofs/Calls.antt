@@ -17,7 +17,7 @@ use Rattle.job.specs.Numbers.{values}
 use Rattle.job.specs.Asked.{scheduleOf, tablesOf, anchorOf, sheetsOf, callWith, callOf}
 use Rattle.job.specs.Printed.{printed, callText}
 use Rattle.job.proofs.Accepted.{Ready, accepted-ready}
-use Rattle.answer_text.specs.Shown.{Texts}
+use Rattle.job.specs.Texts.{Texts}
 use Rattle.bench_text.specs.Steps.{Stored}
 
 -- ---- numbers stored at an array's front

@@ -4,7 +4,7 @@ ghost use Rattle.job.specs.declared.JobRead.the-variants.{Accepted};
 ghost use Rattle.job.specs.Reading.{jobRead};
 ghost use Rattle.job.specs.Asked.{callWith, callOf};
 ghost use Rattle.job.specs.Printed.{callText};
-ghost use Rattle.answer_text.specs.Shown.{Texts};
+ghost use Rattle.job.specs.Texts.{Texts};
 ghost use Rattle.bench_text.specs.Steps.{Stored};
 use job::Front;
 

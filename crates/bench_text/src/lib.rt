@@ -2,7 +2,7 @@
 mod asked;
 
 ghost use Rattle.job.specs.Printed.{benchText};
-ghost use Rattle.answer_text.specs.Shown.{Texts};
+ghost use Rattle.job.specs.Texts.{Texts};
 use job::JobRead;
 
 // The text that the bench program prints for a job: its length, and its first bytes in the buffer, as far as

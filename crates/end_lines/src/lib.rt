@@ -1,6 +1,7 @@
 // The lines that end printed text, a search's end or a refusal, put into a lent buffer from an offset on as far as there is room.
+ghost use mathlib.Core.List.{_++_};
 ghost use Rattle.text.specs.Laid.{Put, Counted};
-ghost use Rattle.text.specs.Text.{endLine, noRouteLine, unfinishedLine, refusedLine};
+ghost use Rattle.text.specs.Text.{newline, field, endLine, refusedLine};
 
 // The end of a search that found a route: the incumbent's cost, finished rounds, turns, and the bound.
 pub fn put_end_line(
@@ -21,22 +22,13 @@ pub fn put_end_line(
     buffer::put_byte(out, d, b'\n')
 }
 
-// The end of a search where there is no route.
-pub fn put_no_route_line(out: &mut [u8], at: usize, turns: u64) -> usize
-    requires { ⌜ Counted at (noRouteLine turns) ⌝ }
-    ensures { λ r. ⌜ Put at (noRouteLine turns) (now (out .entry)) r (now (out .exit)) ⌝ }
+// The end of a search without a route: words, and after them the turns.
+pub fn put_turns_line(out: &mut [u8], at: usize, words: &[u8], turns: u64) -> usize
+    requires { ⌜ Counted at (field (now words) turns ++ newline) ⌝ }
+    ensures { λ r. ⌜ Put at (field (now (words .entry)) turns ++ newline) (now (out .entry)) r (now (out .exit)) ⌝ }
 {
-    let end = buffer::put_field(out, at, b"no route turns ", turns);
-    buffer::put_byte(out, end, b'\n')
-}
-
-// The end of a search whose budget was spent in the first round.
-pub fn put_unfinished_line(out: &mut [u8], at: usize, turns: u64) -> usize
-    requires { ⌜ Counted at (unfinishedLine turns) ⌝ }
-    ensures { λ r. ⌜ Put at (unfinishedLine turns) (now (out .entry)) r (now (out .exit)) ⌝ }
-{
-    let end = buffer::put_field(out, at, b"unfinished turns ", turns);
-    buffer::put_byte(out, end, b'\n')
+    let after = buffer::put_field(out, at, words, turns);
+    buffer::put_byte(out, after, b'\n')
 }
 
 // A refusal: its number and its position.

@@ -2,7 +2,7 @@
 ghost use mathlib.Core.Path.{_≡_};
 ghost use Rattle.planner.specs.Plan.{callOf};
 ghost use Rattle.job.specs.Printed.{benchText};
-ghost use Rattle.answer_text.specs.Shown.{Texts};
+ghost use Rattle.job.specs.Texts.{Texts};
 ghost use Rattle.ffi_planner.specs.Calls.{answerFigures, Exported};
 use search::Answer;
 

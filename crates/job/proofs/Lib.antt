@@ -2,5 +2,6 @@
 pub mod Values
 pub mod Following
 pub mod Accepted
+pub mod Lines
 pub mod JobA
 pub mod Refusals

@@ -4,5 +4,6 @@ pub mod Front
 pub mod Reading
 pub mod Asked
 pub mod Printed
+pub mod Texts
 pub mod JobA
 pub mod Refusals

@@ -1,6 +1,6 @@
 -- `put_refused` meets its contract: one line. Assumes nothing.
 use native.Mathlib.Omega.{arith}
-use Rattle.answer_text.proofs.Lines.{refused-few}
+use Rattle.job.proofs.Lines.{refused-few}
 use borrow.Author.Needs.{needs}
 use Rattle.answer_text.proofs.put_refused.Statement.{statement}
 use Rattle.answer_text.proofs.put_refused.Tie as tie

@@ -2,7 +2,7 @@
 use native.Mathlib.Omega.{arith}
 use Rattle.search.specs.Outcome.{figures}
 use Rattle.job.specs.Printed.{turns, ending, printed}
-use Rattle.answer_text.proofs.Lines.{turns-few, route-few, end-few, two-lines}
+use Rattle.job.proofs.Lines.{turns-few, route-few, end-few, two-lines}
 use borrow.Author.Needs.{needs}
 use Rattle.answer_text.proofs.put_route.Statement.{statement}
 use Rattle.answer_text.proofs.put_route.Tie as tie

@@ -4,8 +4,8 @@ use native.Mathlib.Omega.{arith}
 use mathlib.Core.Path.{sym}
 use lib.ListN.{length, replicate, length-replicate}
 use lib.Seq.{length-take-le}
-use Rattle.answer_text.specs.Shown.{maxText}
-use Rattle.answer_text.proofs.Lines.{text-fits}
+use Rattle.job.specs.Texts.{maxText}
+use Rattle.job.proofs.Lines.{text-fits}
 use borrow.Author.Needs.{needs}
 use Rattle.bench.proofs.main.Statement.{statement}
 use Rattle.bench.proofs.main.Tie as tie

@@ -13,8 +13,8 @@ use Rattle.text.specs.Laid.{Put, Counted}
 use Rattle.text.specs.Text.{loggedLine, turnLines, routeLine, endLine, noRouteLine, unfinishedLine, refusedLine}
 use Rattle.text.proofs.Laid.{put-length, then-put}
 use Rattle.text.proofs.Lengths.{length-each, length-turn-line, length-end-line, length-no-route-line, length-unfinished-line, length-refused-line, length-route-line}
 use Rattle.job.specs.Asked.{routeSize, logSize}
-use Rattle.answer_text.specs.Shown.{maxText, Texts, Lent}
+use Rattle.job.specs.Texts.{maxText, Texts, Lent}
 
 -- every word is one of 32 bits
 abbrev pub Words : List ℕ → Type 0

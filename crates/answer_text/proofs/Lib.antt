@@ -1,2 +1,0 @@
--- The laws behind the proofs of this crate, and a buffer that has room.
-pub mod Lines

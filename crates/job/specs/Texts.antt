@@ -1,0 +1,20 @@
+-- A text in the bench program's lent buffer, and its most bytes.
+use Prim.Native.Nat.{ℕ, _+_, _*_, _≤_}
+use mathlib.Core.List.{List}
+use lib.ListN.{length}
+use Rattle.text.specs.Laid.{Put}
+use Rattle.job.specs.Asked.{routeSize, logSize}
+
+-- no text is longer: a turn line for each log word, the route line, the end line
+abbrev pub maxText : ℕ
+maxText = logSize * 35 + (6 + routeSize * 11) + 112
+
+-- a text is put at the buffer's front, as far as there is room, and is no longer than that
+pub record Texts (text old : List ℕ) (r : ℕ) (new : List ℕ) : Type 0 where
+  pub put : Put 0 text old r new
+  pub few : r ≤ maxText
+
+-- route and log memory are no longer than the bench program's
+pub record Lent (route log : List ℕ) : Type 0 where
+  pub short-route : length route ≤ routeSize
+  pub short-log : length log ≤ logSize
