@@ -17,6 +17,9 @@
  *   Memory beyond what is written keeps its contents.
  * - `figures` points to as many numbers as stated; the call writes them all,
  *   unused ones as 0. A refusal leaves all other memory untouched.
+ * - `rt staticlib NAME` makes target/staticlib/libNAME.a: ffi_numbers has the
+ *   functions on numbers, ffi_plans those on plans, ffi_planner those on
+ *   planner calls and bench jobs. A program links those that it calls.
  *
  * Refusals. They are checked downwards and the first fault counts; plan
  * numbers are taken in byte order, each through all its rows before the next
