@@ -1,5 +1,5 @@
-// Jobs of the bench program, as bytes: plan length, the plan, start, goal, allowance, rounds and factors,
-// guide count, anchor table, guide sheets.
+// A bench job read whole, refused or accepted: plan length, the plan, start, goal, allowance, rounds and
+// factors, guide count, anchor table, guide sheets.
 ghost use mathlib.Core.Path.{_≡_};
 ghost use Rattle.job.specs.Reading.{jobRead, afterPlan, afterSizes};
 use graph::PlanRead;
