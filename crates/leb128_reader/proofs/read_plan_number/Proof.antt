@@ -67,7 +67,7 @@ returns-5 c =
     let a = c .before .before .before .before .before .before .before .args in
     let s = a .bytes .now in
     let b = found-last 1 s (a .at + 1) (omega arith) (c .before .if4 .taken) in
-    answer-value 3 s (a .at) _ 2 (found-more 2 s (a .at) (a .at + 1) (c .before .before .before .before .before .before .if1 .left) (c .before .before .before .before .if2 .left) (omega arith) _ 1 b (omega arith)) (omega (arith, c .before .before .before .before .before .shared-slice-known .given (c .before .before .before .before .before .before .before .args .at), c .before .before .shared-slice-known2 .given (c .before .before .before .before .before .before .before .args .at + 1)))
+    answer-value 3 s (a .at) _ 2 (found-more 2 s (a .at) (a .at + 1) (c .before .before .before .before .before .before .if1 .left) (c .before .before .before .before .if2 .left) (omega arith) _ 1 b (omega arith)) (omega (arith, c .before .before .before .before .before .shared-slice-known .given (a .at), c .before .before .shared-slice-known2 .given (a .at + 1)))
 
 returns-6 : tie.Need-returns-6
 unfolding planGroups
@@ -99,13 +99,22 @@ mul-t22 : tie.Need-mul-t22
 mul-t22 c = search needs
 
 add-t23 : tie.Need-add-t23
-add-t23 c = omega (arith, c .before .before .before .before .before .before .before .before .shared-slice-known .given (c .before .before .before .before .before .before .before .before .before .before .args .at), c .before .before .before .before .before .shared-slice-known2 .given (c .before .before .before .before .before .before .before .before .before .before .args .at + 1))
+add-t23 c =
+    let k = c .before .before .before .before .before in
+    let i = k .before .before .before .before .before .args .at in
+    omega (arith, k .before .before .before .shared-slice-known .given i, k .shared-slice-known2 .given (i + 1))
 
 mul-t24 : tie.Need-mul-t24
-mul-t24 c = omega (arith, c .before .before .before .before .before .before .before .before .shared-slice-known .given (c .before .before .before .before .before .before .before .before .before .before .args .at), c .before .before .before .before .before .shared-slice-known2 .given (c .before .before .before .before .before .before .before .before .before .before .args .at + 1))
+mul-t24 c =
+    let k = c .before .before .before .before .before in
+    let i = k .before .before .before .before .before .args .at in
+    omega (arith, k .before .before .before .shared-slice-known .given i, k .shared-slice-known2 .given (i + 1))
 
 add-t25 : tie.Need-add-t25
-add-t25 c = omega (arith, c .before .before .before .before .before .before .before .before .shared-slice-known .given (c .before .before .before .before .before .before .before .before .before .before .args .at), c .before .before .before .before .before .shared-slice-known2 .given (c .before .before .before .before .before .before .before .before .before .before .args .at + 1))
+add-t25 c =
+    let k = c .before .before .before .before .before in
+    let i = k .before .before .before .before .before .args .at in
+    omega (arith, k .before .before .before .shared-slice-known .given i, k .shared-slice-known2 .given (i + 1))
 
 add-t26 : tie.Need-add-t26
 add-t26 c = search needs
@@ -113,20 +122,22 @@ add-t26 c = search needs
 returns-8 : tie.Need-returns-8
 unfolding planGroups
 returns-8 c =
-    let a = c .before .before .before .before .before .before .before .before .before .before .args in
+    let k = c .before .before .before .before in
+    let a = k .before .before .before .before .before .before .args in
     let s = a .bytes .now in
     let d = found-last 0 s (a .at + 2) (omega arith) (c .if8 .taken) in
-    let b = found-more 1 s (a .at + 1) (a .at + 2) (omega arith) (c .before .before .before .before .if4 .left) (omega arith) _ 1 d (omega arith) in
-    answer-value 3 s (a .at) _ 3 (found-more 2 s (a .at) (a .at + 1) (c .before .before .before .before .before .before .before .before .before .if1 .left) (c .before .before .before .before .before .before .before .if2 .left) (omega arith) _ 2 b (omega arith)) (omega (arith, c .before .before .before .before .before .before .before .before .shared-slice-known .given (c .before .before .before .before .before .before .before .before .before .before .args .at), c .before .before .before .before .before .shared-slice-known2 .given (c .before .before .before .before .before .before .before .before .before .before .args .at + 1)))
+    let b = found-more 1 s (a .at + 1) (a .at + 2) (omega arith) (k .if4 .left) (omega arith) _ 1 d (omega arith) in
+    answer-value 3 s (a .at) _ 3 (found-more 2 s (a .at) (a .at + 1) (k .before .before .before .before .before .if1 .left) (k .before .before .before .if2 .left) (omega arith) _ 2 b (omega arith)) (omega (arith, k .before .before .before .before .shared-slice-known .given (a .at), k .before .shared-slice-known2 .given (a .at + 1)))
 
 returns-9 : tie.Need-returns-9
 unfolding planGroups
 returns-9 c =
-    let a = c .before .before .before .before .before .before .before .before .before .before .args in
+    let k = c .before .before .before .before in
+    let a = k .before .before .before .before .before .before .args in
     let s = a .bytes .now in
     let d = lost-more 0 s (a .at + 2) (a .at + 3) (omega arith) (c .if8 .left) (omega arith) (lost-none 0 s (a .at + 3) refl) in
-    let b = lost-more 1 s (a .at + 1) (a .at + 2) (omega arith) (c .before .before .before .before .if4 .left) (omega arith) d in
-    answer-lost 3 s (a .at) (lost-more 2 s (a .at) (a .at + 1) (c .before .before .before .before .before .before .before .before .before .if1 .left) (c .before .before .before .before .before .before .before .if2 .left) (omega arith) b)
+    let b = lost-more 1 s (a .at + 1) (a .at + 2) (omega arith) (k .if4 .left) (omega arith) d in
+    answer-lost 3 s (a .at) (lost-more 2 s (a .at) (a .at + 1) (k .before .before .before .before .before .if1 .left) (k .before .before .before .if2 .left) (omega arith) b)
 
 pub read-plan-number-spec : {M : Type 1} → statement M
 read-plan-number-spec =
