@@ -23,11 +23,15 @@ put-field-requires-2 c κs = omega (arith, simp length-append at (c .before .bef
 
 put-byte-requires : tie.Need-put-byte-requires
 unfolding ascii field refusedLine
-put-byte-requires c κs = omega (arith, simp length-append at (c .before .before .before .before .before .before .before .before .before .before .before .before .pre))
+put-byte-requires c κs =
+    let k = c .before .before .before .before .before .before in
+    omega (arith, simp length-append at (k .before .before .before .before .before .before .pre))
 
 returns : tie.Need-returns
 unfolding ascii refusedLine
-returns c = then-put (then-put (c .before .before .before .before .before .before .before .before .before .before .before .put-field .ensures) (c .before .before .before .before .before .before .put-field2 .ensures)) (c .before .before .put-byte .ensures)
+returns c =
+    let k = c .before .before .before .before .before .before in
+    then-put (then-put (k .before .before .before .before .before .put-field .ensures) (k .put-field2 .ensures)) (c .before .before .put-byte .ensures)
 
 same-length : tie.Need-same-length
 same-length c = put-length (returns c)

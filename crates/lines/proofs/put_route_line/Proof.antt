@@ -20,11 +20,15 @@ put-vertices-requires c κs = omega (arith, simp length-append at (c .before .be
 
 put-byte-requires : tie.Need-put-byte-requires
 unfolding ascii routeLine
-put-byte-requires c κs = omega (arith, simp length-append at (c .before .before .before .before .before .before .before .before .before .before .before .before .pre))
+put-byte-requires c κs =
+    let k = c .before .before .before .before .before .before in
+    omega (arith, simp length-append at (k .before .before .before .before .before .before .pre))
 
 returns : tie.Need-returns
 unfolding ascii routeLine
-returns c = then-put (then-put (c .before .before .before .before .before .before .before .before .before .before .put-word .ensures) (c .before .before .before .before .before .before .put-vertices .ensures)) (c .before .before .put-byte .ensures)
+returns c =
+    let k = c .before .before .before .before .before .before in
+    then-put (then-put (k .before .before .before .before .put-word .ensures) (k .put-vertices .ensures)) (c .before .before .put-byte .ensures)
 
 same-length : tie.Need-same-length
 same-length c = put-length (returns c)

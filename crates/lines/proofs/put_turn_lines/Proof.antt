@@ -50,8 +50,9 @@ loop-less c = search needs
 loop-again : tie.Need-loop-again Inv-loop μ-loop
 unfolding turnLines
 loop-again c =
-    let l = c .before .before .before .before .before .before .loop in (
-      next-each loggedLine 1 (l .i) (c .before .before .before .before .before .before .before .before .before .before .args .log .now) (omega arith) (l .inv .0) (c .before .before .put-logged-line .ensures),
+    let k = c .before .before .before .before .before .before in
+    let l = k .loop in (
+      next-each loggedLine 1 (l .i) (k .before .before .before .before .args .log .now) (omega arith) (l .inv .0) (c .before .before .put-logged-line .ensures),
       search needs,
     )
 

@@ -47,8 +47,9 @@ loop-less c = search needs
 loop-again : tie.Need-loop-again Inv-loop μ-loop
 unfolding vertices
 loop-again c =
-    let l = c .before .before .before .before .before .before .loop in
-    (next-each spaced 0 (l .i) (c .before .before .before .before .before .before .before .before .before .before .args .route .now) (omega arith) (l .inv .0) (c .before .before .put-vertex .ensures), search needs)
+    let k = c .before .before .before .before .before .before in
+    let l = k .loop in
+    (next-each spaced 0 (l .i) (k .before .before .before .before .args .route .now) (omega arith) (l .inv .0) (c .before .before .put-vertex .ensures), search needs)
 
 same-length : tie.Need-same-length Inv-loop μ-loop
 same-length c = put-length (c .before .loop .inv .0)
