@@ -34,14 +34,18 @@ same-length-2 c = search needs
 
 returns-2 : tie.Need-returns-2
 returns-2 c =
-    let p = c .before .before .before .before .before .before .before .before .before .before .before .before .before .before .before .before .pre in
-    let v = laid-number (laid-none _ _) (vertices-small p) (vertices-room p) (c .before .before .before .before .before .before .before .before .before .before .write-plan-number .ensures) (c .before .before .before .before .before .before .count-at .given .1) in
+    let n = c .before .before .before .before .before .before in
+    let w = n .before .before .before .before in
+    let p = w .before .before .before .before .before .before .pre in
+    let v = laid-number (laid-none _ _) (vertices-small p) (vertices-room p) (w .write-plan-number .ensures) (n .count-at .given .1) in
     absurd (laid-never v (count-small p) (count-room p) (c .before .before .before .write-plan-number2 .ensures) (c .match2 .keys2))
 
 lay-edges-requires : tie.Need-lay-edges-requires
 lay-edges-requires c κs =
-    let p = c .before .before .before .before .before .before .before .before .before .before .before .before .before .before .before .before .before .before .before .pre in
-    let v = laid-number (laid-none _ _) (vertices-small p) (vertices-room p) (c .before .before .before .before .before .before .before .before .before .before .before .before .before .write-plan-number .ensures) (c .before .before .before .before .before .before .before .before .before .count-at .given .1) in
+    let n = c .before .before .before .before .before .before .before .before .before in
+    let w = n .before .before .before .before in
+    let p = w .before .before .before .before .before .before .pre in
+    let v = laid-number (laid-none _ _) (vertices-small p) (vertices-room p) (w .write-plan-number .ensures) (n .count-at .given .1) in
     let m = laid-number v (count-small p) (count-room p) (c .before .before .before .before .before .before .write-plan-number2 .ensures) (c .before .before .edges-at .given .1) in
     edges-fit p m
 
@@ -50,9 +54,12 @@ same-length-3 c = search needs
 
 returns-3 : tie.Need-returns-3
 returns-3 c =
-    let p = c .before .before .before .before .before .before .before .before .before .before .before .before .before .before .before .before .before .before .before .before .before .before .pre in
-    let v = laid-number (laid-none _ _) (vertices-small p) (vertices-room p) (c .before .before .before .before .before .before .before .before .before .before .before .before .before .before .before .before .write-plan-number .ensures) (c .before .before .before .before .before .before .before .before .before .before .before .before .count-at .given .1) in
-    let m = laid-number v (count-small p) (count-room p) (c .before .before .before .before .before .before .before .before .before .write-plan-number2 .ensures) (c .before .before .before .before .before .edges-at .given .1) in
+    let w2 = c .before .before .before .before .before .before .before .before .before in
+    let n = w2 .before .before .before in
+    let w = n .before .before .before .before in
+    let p = w .before .before .before .before .before .before .pre in
+    let v = laid-number (laid-none _ _) (vertices-small p) (vertices-room p) (w .write-plan-number .ensures) (n .count-at .given .1) in
+    let m = laid-number v (count-small p) (count-room p) (w2 .write-plan-number2 .ensures) (c .before .before .before .before .before .edges-at .given .1) in
     plan-laid p m (c .before .before .lay-edges .ensures)
 
 pub lay-spec : {M : Type 1} → statement M

@@ -32,8 +32,10 @@ same-length-2 c = search needs
 
 returns-2 : tie.Need-returns-2
 returns-2 c =
-    let p = c .before .before .before .before .before .before .before .before .before .before .before .before .before .before .pre in
-    let r = laid-number (laid-none _ _) (rise-small p) (rise-room p) (c .before .before .before .before .before .before .before .before .before .before .write-plan-number .ensures) (c .before .before .before .before .before .before .head-at .given .1) in
+    let n = c .before .before .before .before .before .before in
+    let w = n .before .before .before .before in
+    let p = w .before .before .before .before .pre in
+    let r = laid-number (laid-none _ _) (rise-small p) (rise-room p) (w .write-plan-number .ensures) (n .head-at .given .1) in
     absurd (laid-never r (p .layable .head) (head-room p) (c .before .before .before .write-plan-number2 .ensures) (c .match2 .keys2))
 
 write-plan-number-requires-3 : tie.Need-write-plan-number-requires-3
@@ -47,9 +49,13 @@ same-length-3 c = search needs
 
 returns-3 : tie.Need-returns-3
 returns-3 c =
-    let p = c .before .before .before .before .before .before .before .before .before .before .before .before .before .before .before .before .before .before .before .before .before .pre in
-    let r = laid-number (laid-none _ _) (rise-small p) (rise-room p) (c .before .before .before .before .before .before .before .before .before .before .before .before .before .before .before .before .before .write-plan-number .ensures) (c .before .before .before .before .before .before .before .before .before .before .before .before .before .head-at .given .1) in
-    let h = laid-number r (p .layable .head) (head-room p) (c .before .before .before .before .before .before .before .before .before .before .write-plan-number2 .ensures) (c .before .before .before .before .before .before .cost-at .given .1) in
+    let n2 = c .before .before .before .before .before .before in
+    let w2 = n2 .before .before .before .before in
+    let n = w2 .before .before .before in
+    let w = n .before .before .before .before in
+    let p = w .before .before .before .before .pre in
+    let r = laid-number (laid-none _ _) (rise-small p) (rise-room p) (w .write-plan-number .ensures) (n .head-at .given .1) in
+    let h = laid-number r (p .layable .head) (head-room p) (w2 .write-plan-number2 .ensures) (n2 .cost-at .given .1) in
     absurd (laid-never h (p .layable .cost) (cost-room p) (c .before .before .before .write-plan-number3 .ensures) (c .match3 .keys2))
 
 same-length-4 : tie.Need-same-length-4
@@ -57,9 +63,13 @@ same-length-4 c = search needs
 
 returns-4 : tie.Need-returns-4
 returns-4 c =
-    let p = c .before .before .before .before .before .before .before .before .before .before .before .before .before .before .before .before .before .before .before .before .before .before .before .pre in
-    let r = laid-number (laid-none _ _) (rise-small p) (rise-room p) (c .before .before .before .before .before .before .before .before .before .before .before .before .before .before .before .before .before .before .before .write-plan-number .ensures) (c .before .before .before .before .before .before .before .before .before .before .before .before .before .before .before .head-at .given .1) in
-    let h = laid-number r (p .layable .head) (head-room p) (c .before .before .before .before .before .before .before .before .before .before .before .before .write-plan-number2 .ensures) (c .before .before .before .before .before .before .before .before .cost-at .given .1) in
+    let n2 = c .before .before .before .before .before .before .before .before in
+    let w2 = n2 .before .before .before .before in
+    let n = w2 .before .before .before in
+    let w = n .before .before .before .before in
+    let p = w .before .before .before .before .pre in
+    let r = laid-number (laid-none _ _) (rise-small p) (rise-room p) (w .write-plan-number .ensures) (n .head-at .given .1) in
+    let h = laid-number r (p .layable .head) (head-room p) (w2 .write-plan-number2 .ensures) (n2 .cost-at .given .1) in
     edge-laid p (laid-number h (p .layable .cost) (cost-room p) (c .before .before .before .before .before .write-plan-number3 .ensures) (c .before .end .given .1))
 
 pub lay-edge-spec : {M : Type 1} → statement M

@@ -28,10 +28,12 @@ loop-less : tie.Need-loop-less Inv-loop μ-loop
 loop-less c = search needs
 
 loop-again : tie.Need-loop-again Inv-loop μ-loop
-loop-again c = (
-  search needs,
-  laying-next (c .before .before .before .before .before .before .loop .inv .1) (c .before .before .before .before .before .before .before .before .before .before .before .pre .equal) (c .before .before .before .before .before .loop-test .taken) (c .before .before .before .before .edge-at .ensures) (c .before .before .lay-edge .ensures .0) (c .before .before .lay-edge .ensures .1),
-)
+loop-again c =
+    let k = c .before .before .before .before .before .before in
+    let e = c .before .before .lay-edge .ensures in (
+      search needs,
+      laying-next (k .loop .inv .1) (k .before .before .before .before .before .pre .equal) (c .before .before .before .before .before .loop-test .taken) (c .before .before .before .before .edge-at .ensures) (e .0) (e .1),
+    )
 
 same-length : tie.Need-same-length Inv-loop μ-loop
 same-length c = c .before .loop .inv .1 .kept

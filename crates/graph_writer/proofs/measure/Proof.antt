@@ -39,14 +39,16 @@ plan-number-len-requires-2 c κs = search needs
 add-start : tie.Need-add-start
 unfolding planGroups
 add-start c =
-    let a = c .before .before .before .before .before .before .before .before .before .before .args in
+    let k = c .before .before .before .before in
+    let a = k .before .before .before .before .before .before .args in
     omega (arith, encode-few 3 (a .vertices), encode-few 3 (length (a .tails .now)))
 
 measure-edges-requires : tie.Need-measure-edges-requires
 unfolding planGroups
 measure-edges-requires c κs =
-    let a = c .before .before .before .before .before .before .before .before .before .before .args in
-    (record { heads = c .before .before .before .if4 .left; costs = c .before .before .if5 .left }, c .before .before .before .before .if3 .left, omega (arith, encode-few 3 (a .vertices), encode-few 3 (length (a .tails .now))))
+    let k = c .before .before .before .before in
+    let a = k .before .before .before .before .before .before .args in
+    (record { heads = c .before .before .before .if4 .left; costs = c .before .before .if5 .left }, k .if3 .left, omega (arith, encode-few 3 (a .vertices), encode-few 3 (length (a .tails .now))))
 
 returns-6 : tie.Need-returns-6
 returns-6 c =

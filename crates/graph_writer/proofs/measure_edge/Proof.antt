@@ -23,8 +23,9 @@ returns-4 c = cost-refused _ _ _ _ (c .before .before .before .before .before .b
 
 sub-plan-number-len : tie.Need-sub-plan-number-len
 sub-plan-number-len c =
-    let a = c .before .before .before .before .before .before .before .before .before .before .args in
-    omega (arith, not-falling (a .cursor) (a .edge) (sym (c .before .before .before .before .before .falls-behind .ensures) ∙ c .before .before .before .before .if3 .left))
+    let k = c .before .before .before .before in
+    let a = k .before .before .before .before .before .before .args in
+    omega (arith, not-falling (a .cursor) (a .edge) (sym (k .before .falls-behind .ensures) ∙ k .if3 .left))
 
 plan-number-len-requires : tie.Need-plan-number-len-requires
 plan-number-len-requires c κs = search needs
@@ -34,7 +35,8 @@ plan-number-len-requires-2 c κs = search needs
 
 add-size : tie.Need-add-size
 add-size c =
-    let a = c .before .before .before .before .before .before .before .before .before .before .before .before .args in
+    let k = c .before .before .before .before .before .before in
+    let a = k .before .before .before .before .before .before .args in
     omega (arith, edge-length (a .cursor .tail) (a .edge), edge-few (a .cursor .tail) (a .edge))
 
 plan-number-len-requires-3 : tie.Need-plan-number-len-requires-3
@@ -42,12 +44,14 @@ plan-number-len-requires-3 c κs = search needs
 
 add-size-2 : tie.Need-add-size-2
 add-size-2 c =
-    let a = c .before .before .before .before .before .before .before .before .before .before .before .before .before .args in
+    let k = c .before .before .before .before .before .before .before in
+    let a = k .before .before .before .before .before .before .args in
     omega (arith, edge-length (a .cursor .tail) (a .edge), edge-few (a .cursor .tail) (a .edge))
 
 add-t11 : tie.Need-add-t11
 add-t11 c =
-    let a = c .before .before .before .before .before .before .before .before .before .before .before .before .before .before .args in
+    let k = c .before .before .before .before .before .before .before .before in
+    let a = k .before .before .before .before .before .before .args in
     omega (arith, edge-length (a .cursor .tail) (a .edge), edge-few (a .cursor .tail) (a .edge))
 
 add-t10 : tie.Need-add-t10
@@ -55,9 +59,10 @@ add-t10 c = search needs
 
 returns-5 : tie.Need-returns-5
 returns-5 c =
+    let k = c .before .before .before .before .before .before .before .before .before in
     edge-passed _ _ _ _ _ _ _
     (c .before .before .before .before .plan-number-len .ensures) (c .before .before .before .plan-number-len2 .ensures) (c .before .before .plan-number-len3 .ensures)
-    (c .before .before .before .before .before .before .before .before .before .before .before .before .before .if1 .left) (c .before .before .before .before .before .before .before .before .before .before .before .if2 .left) (sym (c .before .before .before .before .before .before .before .before .before .before .falls-behind .ensures) ∙ c .before .before .before .before .before .before .before .before .before .if3 .left) (c .before .before .before .before .before .before .before .if4 .left)
+    (k .before .before .before .before .if1 .left) (k .before .before .if2 .left) (sym (k .before .falls-behind .ensures) ∙ k .if3 .left) (c .before .before .before .before .before .before .before .if4 .left)
 
 pub measure-edge-spec : {M : Type 1} → statement M
 measure-edge-spec =

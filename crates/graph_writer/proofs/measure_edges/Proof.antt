@@ -34,7 +34,8 @@ enum-known-n c = search needs
 
 returns : tie.Need-returns Inv-loop μ-loop
 returns c =
-    measuring-refused (c .before .before .before .before .before .before .loop .inv .1) (c .before .before .before .before .before .before .before .before .before .before .before .pre .0) (c .before .before .before .before .before .loop-test .taken) (c .before .before .before .before .edge-at .ensures)
+    let k = c .before .before .before .before .before .before in
+    measuring-refused (k .loop .inv .1) (k .before .before .before .before .before .pre .0) (c .before .before .before .before .before .loop-test .taken) (c .before .before .before .before .edge-at .ensures)
     (sym (c .before .before .before .measure-edge .ensures) ∙ c .before .n .given .1)
 
 add-i : tie.Need-add-i Inv-loop μ-loop
@@ -44,11 +45,12 @@ loop-less : tie.Need-loop-less Inv-loop μ-loop
 loop-less c = search needs
 
 loop-again : tie.Need-loop-again Inv-loop μ-loop
-loop-again c = (
-  search needs,
-  measuring-next (c .before .before .before .before .before .before .loop .inv .1) (c .before .before .before .before .before .before .before .before .before .before .before .pre .0) (c .before .before .before .before .before .loop-test .taken) (c .before .before .before .before .edge-at .ensures)
-      (sym (c .before .before .before .measure-edge .ensures) ∙ c .before .past .given .1),
-)
+loop-again c =
+    let k = c .before .before .before .before .before .before in (
+      search needs,
+      measuring-next (k .loop .inv .1) (k .before .before .before .before .before .pre .0) (c .before .before .before .before .before .loop-test .taken) (c .before .before .before .before .edge-at .ensures)
+          (sym (c .before .before .before .measure-edge .ensures) ∙ c .before .past .given .1),
+    )
 
 returns-2 : tie.Need-returns-2 Inv-loop μ-loop
 returns-2 c = measuring-end (c .before .loop .inv .1) (c .loop-test .left)
