@@ -74,22 +74,27 @@ mul-work c = search needs
 
 slice-write-work : tie.Need-slice-write-work
 unfolding base
-slice-write-work c = omega (arith, c .before .before .fill-first .kept .0, c .before .before .before .before .before .before .before .before .before .before .pre .0)
+slice-write-work c =
+    let k = c .before .before in
+    omega (arith, k .fill-first .kept .0, k .before .before .before .before .before .before .before .before .pre .0)
 
 mul-work-2 : tie.Need-mul-work-2
 mul-work-2 c = search needs
 
 slice-write-work-2 : tie.Need-slice-write-work-2
 unfolding base
-slice-write-work-2 c = simp length-set (omega (arith, c .before .before .fill-first .kept .0, c .before .before .before .before .before .before .before .before .before .before .pre .0))
+slice-write-work-2 c =
+    let k = c .before .before in
+    simp length-set (omega (arith, k .fill-first .kept .0, k .before .before .before .before .before .before .before .before .pre .0))
 
 same-length : tie.Need-same-length
 same-length c = search needs
 
 returns-2 : tie.Need-returns-2
 returns-2 c =
-    let s = c .before .before .before .before .before .before .before .before .before .before in
-    loaded-one (s .args .z) (s .args .j) (s .args .work .now) (s .args .cursor) _ _ _ _ (sym (c .before .before .before .before .before .before .before .step .ensures) ∙ c .before .before .before .before .before .edge .given .1) (c .before .before .fill-first .ensures)
+    let k = c .before .before .before .before .before in
+    let s = k .before .before .before .before .before in
+    loaded-one (s .args .z) (s .args .j) (s .args .work .now) (s .args .cursor) _ _ _ _ (sym (k .before .before .step .ensures) ∙ k .edge .given .1) (c .before .before .fill-first .ensures)
 
 pub load-edge-spec : {M : Type 1} → statement M
 load-edge-spec =

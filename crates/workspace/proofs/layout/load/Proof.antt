@@ -75,9 +75,10 @@ has-mark-requires-4 c κs = search needs
 returns : tie.Need-returns
 unfolding vertexAt
 returns c =
-    let s = c .before .before .before .before .before .before .before .before .before .before in
-    let o = c .before .before .before .before .before .before .before .before .base .result + 4 * s .args .p in (
-      rw (c .before .before .before .has-mark .ensures, c .before .before .has-mark2 .ensures, c .before .has-mark3 .ensures, c .has-mark4 .ensures, c .before .before .before .before .before .before .before .before .base .ensures)
+    let b = c .before .before .before .before .before .before .before .before in
+    let s = b .before .before in
+    let o = b .base .result + 4 * s .args .p in (
+      rw (c .before .before .before .has-mark .ensures, c .before .before .has-mark2 .ensures, c .before .has-mark3 .ensures, c .has-mark4 .ensures, b .base .ensures)
           (sym (at-verticesOf (s .args .z) (s .args .work .now) (s .args .p) (s .pre .1))),
       record { g = omega (arith, c .before .before .before .before .shared-slice-known5 .given o); v = omega (arith, c .before .before .before .before .shared-slice-known5 .given (o + 1)) },
     )
