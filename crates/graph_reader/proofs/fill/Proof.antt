@@ -27,8 +27,9 @@ loop-holds c = filled-none _ _ _ _ _ _ _ _ (c .first .ensures) (c .before .befor
 
 store-requires : tie.Need-store-requires Inv-loop μ-loop
 store-requires c κs =
-    let a = c .before .before .before .before .before .before .before .before .before .before in
-    let f = c .before .before .before .before .loop .inv in
+    let k = c .before .before .before .before in
+    let a = k .before .before .before .before .before .before in
+    let f = k .loop .inv in
     let l = c .before .before .before .loop-test .taken in (
       omega (arith, l, f .tails .size, a .pre .1),
       (
@@ -45,8 +46,9 @@ loop-less c = omega arith
 
 loop-again : tie.Need-loop-again Inv-loop μ-loop
 loop-again c =
-    let e = c .before .before .before .before .before .before .store .ensures in
-    filled-next _ _ _ _ _ _ _ _ _ _ _ _ _ _ _ _ (c .before .before .before .before .before .before .before .before .before .before .loop-test .taken) (c .before .before .before .before .before .before .before .before .before .before .before .loop .inv) (e .0) (e .1 .0) (e .1 .1 .0) (e .1 .1 .1)
+    let k = c .before .before .before .before .before .before in
+    let e = k .store .ensures in
+    filled-next _ _ _ _ _ _ _ _ _ _ _ _ _ _ _ _ (k .before .before .before .before .loop-test .taken) (k .before .before .before .before .before .loop .inv) (e .0) (e .1 .0) (e .1 .1 .0) (e .1 .1 .1)
 
 same-length : tie.Need-same-length Inv-loop μ-loop
 same-length c = c .before .loop .inv .tails .size

@@ -46,19 +46,29 @@ enum-told-3 c = search needs
 
 returns-3 : tie.Need-returns-3
 returns-3 c =
-    absurd (cost-there _ _ _ (c .before .before .before .before .before .before .before .before .before .before .before .before .pre) _ _ (sym (c .before .before .before .before .before .before .before .before .before .before .read-plan-number .ensures) ∙ c .before .before .before .before .before .before .before .before .difference .given .1) _ _ (sym (c .before .before .before .before .before .before .read-plan-number2 .ensures) ∙ c .before .before .before .before .head .given .1) _
-    (sym (c .before .before .read-plan-number3 .ensures) ∙ c .enum-told3 .given .1))
+    let k = c .before .before .before .before .before .before .before .before in
+    let a = sym (k .before .before .read-plan-number .ensures) ∙ k .difference .given .1 in
+    let b = sym (c .before .before .before .before .before .before .read-plan-number2 .ensures) ∙ c .before .before .before .before .head .given .1 in
+    absurd (cost-there _ _ _ (k .before .before .before .before .pre) _ _ a _ _ b _ (sym (c .before .before .read-plan-number3 .ensures) ∙ c .enum-told3 .given .1))
 
 add-tail : tie.Need-add-tail
-add-tail c = omega (arith, taken-tail _ _ _ _ _ _ (tail-taken _ _ _ (c .before .before .before .before .before .before .before .before .before .before .before .before .before .pre) _ _ (sym (c .before .before .before .before .before .before .before .before .before .before .before .read-plan-number .ensures) ∙ c .before .before .before .before .before .before .before .before .before .difference .given .1)))
+add-tail c =
+    let k = c .before .before .before .before .before .before .before .before .before in
+    let a = sym (k .before .before .read-plan-number .ensures) ∙ k .difference .given .1 in
+    omega (arith, taken-tail _ _ _ _ _ _ (tail-taken _ _ _ (k .before .before .before .before .pre) _ _ a))
 
 add-t17 : tie.Need-add-t17
-add-t17 c = omega (arith, taken-head _ _ _ _ _ _ (head-taken _ _ _ (c .before .before .before .before .before .before .before .before .before .before .before .before .before .pre) _ _ (sym (c .before .before .before .before .before .before .before .before .before .before .before .read-plan-number .ensures) ∙ c .before .before .before .before .before .before .before .before .before .difference .given .1) _ _ (sym (c .before .before .before .before .before .before .before .read-plan-number2 .ensures) ∙ c .before .before .before .before .before .head .given .1)))
+add-t17 c =
+    let k = c .before .before .before .before .before .before .before .before .before in
+    let a = sym (k .before .before .read-plan-number .ensures) ∙ k .difference .given .1 in
+    let b = sym (c .before .before .before .before .before .before .before .read-plan-number2 .ensures) ∙ c .before .before .before .before .before .head .given .1 in
+    omega (arith, taken-head _ _ _ _ _ _ (head-taken _ _ _ (k .before .before .before .before .pre) _ _ a _ _ b))
 
 returns-4 : tie.Need-returns-4
 returns-4 c =
-    let h = c .before .before .before .before .before .before .before .before .before .before .before .before .before .pre in
-    let a = sym (c .before .before .before .before .before .before .before .before .before .before .before .read-plan-number .ensures) ∙ c .before .before .before .before .before .before .before .before .before .difference .given .1 in
+    let k = c .before .before .before .before .before .before .before .before .before in
+    let h = k .before .before .before .before .pre in
+    let a = sym (k .before .before .read-plan-number .ensures) ∙ k .difference .given .1 in
     let b = sym (c .before .before .before .before .before .before .before .read-plan-number2 .ensures) ∙ c .before .before .before .before .before .head .given .1 in
     step-edge _ _ _ _ _ _ _ _ _ _ (tail-taken _ _ _ h _ _ a) refl (head-taken _ _ _ h _ _ a _ _ b)
     (cost-taken _ _ _ h _ _ a _ _ b _ _ (sym (c .before .before .before .read-plan-number3 .ensures) ∙ c .before .cost .given .1))
