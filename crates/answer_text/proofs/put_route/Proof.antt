@@ -38,15 +38,18 @@ cast-put-end-line-3 c = search needs
 
 put-end-line-requires : tie.Need-put-end-line-requires
 put-end-line-requires c κs =
-    let a = c .before .before .before .before .before .before .before .before .before .before .before .before .before .before in
+    let f = c .before .struct-known in
+    let t = c .before .before .before .before .before .before .before .before .before in
+    let k = t .before .before in
+    let a = k .before .before .before in
     let s = a .args .summary in
     omega (
       arith,
-      turns-few (s .expansions) (a .args .log .now) (c .before .before .before .before .before .before .before .before .before .before .before .shared-slice-known2 .given) (a .pre .short-log),
-      c .before .before .before .before .before .before .before .before .before .put-turn-lines .ensures .next,
-      route-few (s .length) (a .args .route .now) (c .before .before .before .before .before .before .before .before .before .before .before .before .shared-slice-known .given) (a .pre .short-route),
+      turns-few (s .expansions) (a .args .log .now) (k .shared-slice-known2 .given) (a .pre .short-log),
+      t .put-turn-lines .ensures .next,
+      route-few (s .length) (a .args .route .now) (k .before .shared-slice-known .given) (a .pre .short-route),
       c .before .before .before .before .before .put-route-line .ensures .next,
-      end-few (s .cost) (s .rounds) (s .expansions) (s .bound) (omega arith) (omega arith) (omega arith) (omega arith),
+      end-few (s .cost) (s .rounds) (s .expansions) (s .bound) (omega (arith, f)) (omega (arith, f)) (omega (arith, f)) (omega (arith, f)),
     )
 
 same-length : tie.Need-same-length
@@ -55,12 +58,16 @@ same-length c = search needs
 returns : tie.Need-returns
 unfolding printed ending turns figures
 returns c =
-    let a = c .before .before .before .before .before .before .before .before .before .before .before .before .before .before .before .before .before in
+    let f = c .before .before .before .before .struct-known in
+    let r = c .before .before .before .before .before .before .before .before in
+    let t = r .before .before .before .before in
+    let k = t .before .before in
+    let a = k .before .before .before in
     let s = a .args .summary in
-    two-lines (s .expansions) (a .args .log .now) (s .length) (a .args .route .now) _ (c .before .before .before .before .before .before .before .before .before .before .before .before .before .before .shared-slice-known2 .given) (c .before .before .before .before .before .before .before .before .before .before .before .before .before .before .before .shared-slice-known .given) (a .pre)
-    (end-few (s .cost) (s .rounds) (s .expansions) (s .bound) (omega (arith, c .before .before .before .before .struct-known)) (omega (arith, c .before .before .before .before .struct-known)) (omega (arith, c .before .before .before .before .struct-known)) (omega (arith, c .before .before .before .before .struct-known)))
-    (c .before .before .before .before .before .before .before .before .before .before .before .before .put-turn-lines .ensures)
-    (c .before .before .before .before .before .before .before .before .put-route-line .ensures)
+    two-lines (s .expansions) (a .args .log .now) (s .length) (a .args .route .now) _ (k .shared-slice-known2 .given) (k .before .shared-slice-known .given) (a .pre)
+    (end-few (s .cost) (s .rounds) (s .expansions) (s .bound) (omega (arith, f)) (omega (arith, f)) (omega (arith, f)) (omega (arith, f)))
+    (t .put-turn-lines .ensures)
+    (r .put-route-line .ensures)
     (c .before .before .put-end-line .ensures)
 
 pub put-route-spec : {M : Type 1} → statement M
