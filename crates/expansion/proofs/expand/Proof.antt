@@ -32,10 +32,11 @@ same-length c = search needs
 
 returns : tie.Need-returns
 returns c =
-    let s = c .before .before .before .before .before .before .before .before .before .before .before .before in
-    let f = rw (c .before .before .before .before .before .before .before .marked .ensures, c .before .before .before .before .before .before .before .before .before .load .ensures .0) at (c .before .before .before .before .before .before .store .ensures) in
+    let l = c .before .before .before .before .before .before .before .before .before in
+    let s = l .before .before .before in
+    let f = rw (c .before .before .before .before .before .before .before .marked .ensures, l .load .ensures .0) at (c .before .before .before .before .before .before .store .ensures) in
     expanded (s .args .z) (s .args .work .now) _ (s .args .i) (s .args .s) (s .pre .0) f _
-    (rw (c .before .before .before .before .before .before .before .before .before .load .ensures .0) at (c .before .before .relax-all .ensures))
+    (rw (l .load .ensures .0) at (c .before .before .relax-all .ensures))
 
 pub expand-spec : {M : Type 1} → statement M
 expand-spec =

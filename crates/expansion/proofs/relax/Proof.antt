@@ -33,10 +33,11 @@ same-length c = search needs
 
 returns : tie.Need-returns
 returns c =
-    let a = c .before .before .before .before .before .before .before .before .before .before .args in
-    rw (c .before .before .store .ensures, c .before .before .before .lowered .ensures, c .before .before .before .before .before .before .before .load .ensures .0)
+    let l = c .before .before .before .before .before .before .before in
+    let a = l .before .before .before .args in
+    rw (c .before .before .store .ensures, c .before .before .before .lowered .ensures, l .load .ensures .0)
     (ap (λ x. written (a .z) x (a .work .now))
-    (relax-taken (a .s) (a .g) (a .e) (verticesOf (a .z) (a .work .now)) (rw (c .before .before .before .before .before .before .before .load .ensures .0) at (c .before .before .before .before .before .if1 .taken))))
+    (relax-taken (a .s) (a .g) (a .e) (verticesOf (a .z) (a .work .now)) (rw (l .load .ensures .0) at (c .before .before .before .before .before .if1 .taken))))
 
 same-length-2 : tie.Need-same-length-2
 same-length-2 c = search needs

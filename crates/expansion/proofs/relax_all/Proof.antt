@@ -39,9 +39,10 @@ edge-requires c κs =
 
 relax-requires : tie.Need-relax-requires Inv-loop μ-loop
 relax-requires c κs =
-    let a = c .before .before .before .before .before .before .before .before .before .before in
-    let l = c .before .before .before .before .loop in
-    let m : l .j < a .args .z .edges = omega (arith, a .pre .0 .ends (a .args .s) (a .pre .1), rw add-one at (c .before .before .before .before .before .first-edge2 .ensures)) in
+    let k = c .before .before .before .before in
+    let a = k .before .before .before .before .before .before in
+    let l = k .loop in
+    let m : l .j < a .args .z .edges = omega (arith, a .pre .0 .ends (a .args .s) (a .pre .1), rw add-one at (k .before .first-edge2 .ensures)) in
     let r = tried-ready _ _ _ _ _ _ (a .pre .0) (l .work) (l .j) (l .inv) in
     (r, rw (c .before .edge .ensures) (r .heads (a .args .s) (l .j) m), a .pre .2)
 
@@ -53,9 +54,10 @@ loop-less c = search needs
 
 loop-again : tie.Need-loop-again Inv-loop μ-loop
 loop-again c =
-    let a = c .before .before .before .before .before .before .before .before .before .before .before .before .before in
-    let l = c .before .before .before .before .before .before .before .loop in
-    let m : l .j < a .args .z .edges = omega (arith, a .pre .0 .ends (a .args .s) (a .pre .1), rw add-one at (c .before .before .before .before .before .before .before .before .first-edge2 .ensures)) in
+    let k = c .before .before .before .before .before .before .before in
+    let a = k .before .before .before .before .before .before in
+    let l = k .loop in
+    let m : l .j < a .args .z .edges = omega (arith, a .pre .0 .ends (a .args .s) (a .pre .1), rw add-one at (k .before .first-edge2 .ensures)) in
     tried-next _ _ _ _ _ _ (a .pre .0) (l .work) (l .j) (l .inv) _ _ (c .before .before .before .before .before .before .loop-test .taken) m (c .before .before .before .before .edge .ensures) (c .before .before .relax .ensures)
 
 same-length : tie.Need-same-length Inv-loop μ-loop
