@@ -42,14 +42,18 @@ enum-told-3 c = search needs
 
 returns-3 : tie.Need-returns-3
 unfolding ends
-returns-3 c = follows _ _ _ (c .before .before .before .before .before .before .before .before .before .before .read-job-number .ensures) _ _ _ (c .before .before .before .before .before .before .before .before .start .given .1) (follows _ _ _ (c .before .before .before .before .before .before .read-job-number2 .ensures) _ _ _ (c .before .before .before .before .goal .given .1) (follows-none _ _ _ (c .before .before .read-job-number3 .ensures) _ (c .enum-told3 .given .1)))
+returns-3 c =
+    let k = c .before .before .before .before .before .before .before .before in
+    follows _ _ _ (k .before .before .read-job-number .ensures) _ _ _ (k .start .given .1) (follows _ _ _ (c .before .before .before .before .before .before .read-job-number2 .ensures) _ _ _ (c .before .before .before .before .goal .given .1) (follows-none _ _ _ (c .before .before .read-job-number3 .ensures) _ (c .enum-told3 .given .1)))
 
 read-rounds-requires : tie.Need-read-rounds-requires
 read-rounds-requires c κs = search needs
 
 returns-4 : tie.Need-returns-4
 unfolding ends
-returns-4 c = follows _ _ _ (c .before .before .before .before .before .before .before .before .before .before .before .before .read-job-number .ensures) _ _ _ (c .before .before .before .before .before .before .before .before .before .before .start .given .1) (follows _ _ _ (c .before .before .before .before .before .before .before .before .read-job-number2 .ensures) _ _ _ (c .before .before .before .before .before .before .goal .given .1) (follows _ _ _ (c .before .before .before .before .read-job-number3 .ensures) _ _ _ (c .before .before .budget .given .1) (c .read-rounds .ensures)))
+returns-4 c =
+    let k = c .before .before .before .before .before .before .before .before in
+    follows _ _ _ (k .before .before .before .before .read-job-number .ensures) _ _ _ (k .before .before .start .given .1) (follows _ _ _ (k .read-job-number2 .ensures) _ _ _ (c .before .before .before .before .before .before .goal .given .1) (follows _ _ _ (c .before .before .before .before .read-job-number3 .ensures) _ _ _ (c .before .before .budget .given .1) (c .read-rounds .ensures)))
 
 pub read-ends-spec : {M : Type 1} → statement M
 read-ends-spec =

@@ -54,15 +54,21 @@ enum-told-3 c = search needs
 
 returns-4 : tie.Need-returns-4
 unfolding rounds
-returns-4 c = follows _ _ _ (c .before .before .before .before .before .before .before .before .before .before .before .read-job-number .ensures) _ _ _ (c .before .before .before .before .before .before .before .before .before .rounds .given .1) (fails _ _ _ _ (le-ltb _ _ (c .before .before .before .before .before .before .before .if1 .left)) (passes _ _ _ (c .before .before .before .before .before .before .past .ensures) _ _ (c .before .before .before .before .guides-at .given .1) (follows-none _ _ _ (c .before .before .read-job-number2 .ensures) _ (c .enum-told3 .given .1))))
+returns-4 c =
+    let k = c .before .before .before .before .before .before .before in
+    follows _ _ _ (k .before .before .before .before .read-job-number .ensures) _ _ _ (k .before .before .rounds .given .1) (fails _ _ _ _ (le-ltb _ _ (k .if1 .left)) (passes _ _ _ (c .before .before .before .before .before .before .past .ensures) _ _ (c .before .before .before .before .guides-at .given .1) (follows-none _ _ _ (c .before .before .read-job-number2 .ensures) _ (c .enum-told3 .given .1))))
 
 returns-5 : tie.Need-returns-5
 unfolding rounds
-returns-5 c = follows _ _ _ (c .before .before .before .before .before .before .before .before .before .before .before .before .before .read-job-number .ensures) _ _ _ (c .before .before .before .before .before .before .before .before .before .before .before .rounds .given .1) (fails _ _ _ _ (le-ltb _ _ (c .before .before .before .before .before .before .before .before .before .if1 .left)) (passes _ _ _ (c .before .before .before .before .before .before .before .before .past .ensures) _ _ (c .before .before .before .before .before .before .guides-at .given .1) (follows _ _ _ (c .before .before .before .before .read-job-number2 .ensures) _ _ _ (c .before .before .guides .given .1) (holds _ _ _ (lt-ltb _ _ (c .if2 .taken))))))
+returns-5 c =
+    let k = c .before .before .before .before .before .before .before .before .before in
+    follows _ _ _ (k .before .before .before .before .read-job-number .ensures) _ _ _ (k .before .before .rounds .given .1) (fails _ _ _ _ (le-ltb _ _ (k .if1 .left)) (passes _ _ _ (c .before .before .before .before .before .before .before .before .past .ensures) _ _ (c .before .before .before .before .before .before .guides-at .given .1) (follows _ _ _ (c .before .before .before .before .read-job-number2 .ensures) _ _ _ (c .before .before .guides .given .1) (holds _ _ _ (lt-ltb _ _ (c .if2 .taken))))))
 
 returns-6 : tie.Need-returns-6
 unfolding rounds
-returns-6 c = follows _ _ _ (c .before .before .before .before .before .before .before .before .before .before .before .before .before .read-job-number .ensures) _ _ _ (c .before .before .before .before .before .before .before .before .before .before .before .rounds .given .1) (fails _ _ _ _ (le-ltb _ _ (c .before .before .before .before .before .before .before .before .before .if1 .left)) (passes _ _ _ (c .before .before .before .before .before .before .before .before .past .ensures) _ _ (c .before .before .before .before .before .before .guides-at .given .1) (follows _ _ _ (c .before .before .before .before .read-job-number2 .ensures) _ _ _ (c .before .before .guides .given .1) (fails _ _ _ _ (le-ltb _ _ (c .if2 .left)) refl))))
+returns-6 c =
+    let k = c .before .before .before .before .before .before .before .before .before in
+    follows _ _ _ (k .before .before .before .before .read-job-number .ensures) _ _ _ (k .before .before .rounds .given .1) (fails _ _ _ _ (le-ltb _ _ (k .if1 .left)) (passes _ _ _ (c .before .before .before .before .before .before .before .before .past .ensures) _ _ (c .before .before .before .before .before .before .guides-at .given .1) (follows _ _ _ (c .before .before .before .before .read-job-number2 .ensures) _ _ _ (c .before .before .guides .given .1) (fails _ _ _ _ (le-ltb _ _ (c .if2 .left)) refl))))
 
 pub read-rounds-spec : {M : Type 1} → statement M
 read-rounds-spec =
