@@ -43,9 +43,10 @@ same-length c = search needs
 
 returns-2 : tie.Need-returns-2
 returns-2 c =
-    let s = c .before .before .before .before .before .before .before .before .before .before .before .before .args in
+    let t = c .before .before .before .before .before .before .before .before .before in
+    let s = t .before .before .before .args in
     let k = tracedCost (s .z) (s .work .now) (s .start) (s .goal) in
-    let e = figures-cost (s .z) (s .work .now) (s .start) (s .goal) _ (c .before .before .before .before .before .before .before .before .before .traced .ensures) ∙ c .before .before .before .before .before .before .before .cost .given .1 in
+    let e = figures-cost (s .z) (s .work .now) (s .start) (s .goal) _ (t .traced .ensures) ∙ c .before .before .before .before .before .before .before .cost .given .1 in
     keeps-new (s .z .vertices) k (tracedIn (s .z) (s .work .now) (s .start) (s .goal)) (s .p) (s .route .now) _ e (sym (c .before .before .before .before .before .improves .ensures) ∙ c .before .before .before .before .if1 .taken) _ (c .before .before .lay .ensures)
 
 returns-3 : tie.Need-returns-3

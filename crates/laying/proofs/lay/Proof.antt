@@ -25,8 +25,9 @@ same-length c = search needs
 
 returns : tie.Need-returns
 returns c =
-    let s = c .before .before .before .before .before .before .before .before .before .before in
-    laid-whole (s .args .z) (s .args .work .now) (s .args .start) (s .args .goal) (s .args .route .now) _ _ (s .args .n) (s .pre .2) (c .before .before .before .before .before .before .put-all .ensures) (s .pre .1) (c .before .before .fill .ensures)
+    let k = c .before .before .before .before .before .before in
+    let s = k .before .before .before .before in
+    laid-whole (s .args .z) (s .args .work .now) (s .args .start) (s .args .goal) (s .args .route .now) _ _ (s .args .n) (s .pre .2) (k .put-all .ensures) (s .pre .1) (c .before .before .fill .ensures)
 
 pub lay-spec : {M : Type 1} → statement M
 lay-spec = tie.close (tie.spec put-all-requires fill-requires same-length returns)
