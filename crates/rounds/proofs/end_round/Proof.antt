@@ -26,7 +26,9 @@ reopen-next-requires c κs = holds-ready _ _ _ _ _ (c .before .before .before .b
 
 after-round-requires : tie.Need-after-round-requires
 after-round-requires c κs =
-    let h = c .before .before .before .before .before .before .before .before .before .before .before .pre in few-rounds _ _ _ _ _ _ _ (h .asking) (h .carries) (h .more) (h .finished)
+    let k = c .before .before .before .before .before in
+    let h = k .before .before .before .before .before .before .pre in
+    few-rounds _ _ _ _ _ _ _ (h .asking) (h .carries) (h .more) (h .finished)
 
 same-length : tie.Need-same-length
 same-length c = search needs

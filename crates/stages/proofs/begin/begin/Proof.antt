@@ -15,15 +15,18 @@ load-graph-requires c κs = load-asks _ _ _ _ _ _ _ _ _ (c .before .before .befo
 
 at-first-requires : tie.Need-at-first-requires
 at-first-requires c κs =
-    let h = c .before .before .before .before .before .before .before .before .before .before .pre in first-asks _ _ _ _ _ _ _ _ _ (h .called) _ (c .before .before .before .load-graph .ensures)
+    let l = c .before .before .before in
+    let h = l .before .before .before .before .before .before .before .pre in
+    first-asks _ _ _ _ _ _ _ _ _ (h .called) _ (l .load-graph .ensures)
 
 at-first-requires-2 : tie.Need-at-first-requires-2
 at-first-requires-2 c κs = search needs
 
 settle-requires : tie.Need-settle-requires
 settle-requires c κs =
-    let h = c .before .before .before .before .before .before .before .before .before .before .before .before .before .before .before .before .pre in
-    settle-asks _ _ _ _ _ _ _ _ _ (h .called) _ (c .before .before .before .before .before .before .before .before .before .load-graph .ensures) _ _ (c .before .before .before .before .before .at-first .ensures) (c .before .before .at-first2 .ensures)
+    let l = c .before .before .before .before .before .before .before .before .before in
+    let h = l .before .before .before .before .before .before .before .pre in
+    settle-asks _ _ _ _ _ _ _ _ _ (h .called) _ (l .load-graph .ensures) _ _ (c .before .before .before .before .before .at-first .ensures) (c .before .before .at-first2 .ensures)
 
 same-length : tie.Need-same-length
 same-length c = search needs
@@ -33,10 +36,11 @@ same-length-2 c = search needs
 
 returns : tie.Need-returns
 returns c =
+    let k = c .before .before .before .before .before .before .before in
     record {
       begins =
           λ d h.
-          begins-there d _ _ _ _ _ _ _ _ h _ (c .before .before .before .before .before .before .before .before .before .before .before .before .before .before .load-graph .ensures) _ _ (c .before .before .before .before .before .before .before .before .before .before .at-first .ensures) (c .before .before .before .before .before .before .before .at-first2 .ensures)
+          begins-there d _ _ _ _ _ _ _ _ h _ (k .before .before .before .before .before .before .before .load-graph .ensures) _ _ (k .before .before .before .at-first .ensures) (k .at-first2 .ensures)
           _ _ _ (c .before .before .before .before .settle .ensures);
     }
 
