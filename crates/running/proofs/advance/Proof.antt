@@ -24,25 +24,33 @@ enum-known-step c = search needs
 
 factors-requires : tie.Need-factors-requires
 factors-requires c κs =
-    let h = c .before .before .before .before .before .before .before .before .before .before .pre in round-in (h .call) _ _ (h .stand) (h .turns) _ _ _ _ _ _ _ (h .asking) (h .given) (h .reaches) _ _ (c .before .step .given .1)
+    let s = c .before in
+    let h = s .before .before .before .before .before .before .before .before .before .pre in
+    round-in (h .call) _ _ (h .stand) (h .turns) _ _ _ _ _ _ _ (h .asking) (h .given) (h .reaches) _ _ (s .step .given .1)
 
 turn-requires : tie.Need-turn-requires
 turn-requires c κs =
-    let h = c .before .before .before .before .before .before .before .before .before .before .before .before .before .pre in turn-asks (h .call) _ _ (h .stand) (h .turns) _ _ _ _ _ _ _ (h .asking) (h .given) (h .reaches) _ _ (c .before .before .before .before .step .given .1) _ (c .before .before .factors .ensures)
+    let s = c .before .before .before .before in
+    let h = s .before .before .before .before .before .before .before .before .before .pre in
+    turn-asks (h .call) _ _ (h .stand) (h .turns) _ _ _ _ _ _ _ (h .asking) (h .given) (h .reaches) _ _ (s .step .given .1) _ (c .before .before .factors .ensures)
 
 after-turn-requires : tie.Need-after-turn-requires
 after-turn-requires c κs = search needs
 
 sub-left : tie.Need-sub-left
 sub-left c =
-    let h = c .before .before .before .before .before .before .before .before .before .before .before .before .before .before .before .before .before .before .before .before .before .pre in
-    let w = c .before .before .before .before .before .before .before .turn .ensures in
-    left-enough (h .call) _ _ (h .stand) (h .turns) _ _ _ _ _ _ _ (h .asking) (h .given) (h .reaches) _ _ (c .before .before .before .before .before .before .before .before .before .before .before .before .step .given .1) _ (c .before .before .before .before .before .before .before .before .before .before .factors .ensures) _ _ _ (c .before .before .after-turn .ensures) (w .0) (w .1)
+    let t = c .before .before .before .before .before .before .before in
+    let s = t .before .before .before .before .before in
+    let h = s .before .before .before .before .before .before .before .before .before .pre in
+    let w = t .turn .ensures in
+    left-enough (h .call) _ _ (h .stand) (h .turns) _ _ _ _ _ _ _ (h .asking) (h .given) (h .reaches) _ _ (s .step .given .1) _ (t .before .before .before .factors .ensures) _ _ _ (c .before .before .after-turn .ensures) (w .0) (w .1)
 
 settle-requires : tie.Need-settle-requires
 settle-requires c κs =
-    let w = c .before .before .before .before .before .before .before .before .before .turn .ensures in
-    settling-next _ _ _ _ _ _ _ _ _ _ _ (c .before .before .before .before .before .before .before .before .before .before .before .before .before .before .step .given .1) _ (c .before .before .before .before .before .before .before .before .before .before .before .before .factors .ensures) _ _ _ (c .before .before .before .before .after-turn .ensures) (w .0) (w .1) (c .before .before .before .before .before .before .before .before .before .before .before .before .before .before .before .before .before .before .before .before .before .before .before .pre)
+    let t = c .before .before .before .before .before .before .before .before .before in
+    let s = t .before .before .before .before .before in
+    let w = t .turn .ensures in
+    settling-next _ _ _ _ _ _ _ _ _ _ _ (s .step .given .1) _ (t .before .before .before .factors .ensures) _ _ _ (c .before .before .before .before .after-turn .ensures) (w .0) (w .1) (s .before .before .before .before .before .before .before .before .before .pre)
 
 returns : tie.Need-returns
 returns c = advances-over _ _ _ _ _ _ _ _ _ (λ m b e. stuck≢due (sym (c .enum-told .given .1) ∙ e))
@@ -61,8 +69,10 @@ same-length-3 c = search needs
 
 returns-3 : tie.Need-returns-3
 returns-3 c =
-    let w = c .before .before .before .before .before .before .before .before .before .before .before .before .before .before .turn .ensures in
-    advances-due _ _ _ _ _ _ _ _ _ _ _ (c .before .before .before .before .before .before .before .before .before .before .before .before .before .before .before .before .before .before .before .step .given .1) _ (c .before .before .before .before .before .before .before .before .before .before .before .before .before .before .before .before .before .factors .ensures) _ _ _ (c .before .before .before .before .before .before .before .before .before .after-turn .ensures) (w .0) (w .1) _ _ _
+    let a = c .before .before .before .before .before .before .before .before .before in
+    let t = a .before .before .before .before .before in
+    let w = t .turn .ensures in
+    advances-due _ _ _ _ _ _ _ _ _ _ _ (t .before .before .before .before .before .step .given .1) _ (t .before .before .before .factors .ensures) _ _ _ (a .after-turn .ensures) (w .0) (w .1) _ _ _
     (c .before .before .before .before .settle .ensures)
 
 pub advance-spec : {M : Type 1} → statement M

@@ -29,22 +29,28 @@ loop-holds c = (ran-none _ _ _ _ _ _ _ _ _ _ _ (c .goes-on .ensures), refl, refl
 
 advance-requires : tie.Need-advance-requires Inv-loop μ-loop
 advance-requires c κs =
-    advancing _ _ _ _ _ _ _ _ _ _ _ _ _ _ _ (ran-going (c .before .before .before .loop-test .taken) (c .before .before .before .before .loop .inv .0)) (c .before .before .before .before .before .before .before .before .before .before .before .before .pre) (omega (arith, c .before .before .before .before .before .before .before .before .before .before .before .before))
+    let k = c .before .before .before .before in
+    let a = k .before .before .before .before .before .before .before .before in
+    advancing _ _ _ _ _ _ _ _ _ _ _ _ _ _ _ (ran-going (c .before .before .before .loop-test .taken) (k .loop .inv .0)) (a .pre) (omega (arith, a))
 
 sub-left : tie.Need-sub-left Inv-loop μ-loop
-sub-left c = left-some _ _ _ _ _ _ _ _ _ _ _ _ _ _ _ (ran-going (c .before .before .before .before .before .before .before .before .before .before .loop-test .taken) (c .before .before .before .before .before .before .before .before .before .before .before .loop .inv .0))
+sub-left c =
+    let k = c .before .before .before .before .before .before .before .before .before in
+    left-some _ _ _ _ _ _ _ _ _ _ _ _ _ _ _ (ran-going (k .before .loop-test .taken) (k .before .before .loop .inv .0))
 
 goes-on-requires-2 : tie.Need-goes-on-requires-2 Inv-loop μ-loop
 goes-on-requires-2 c κs = search needs
 
 loop-less : tie.Need-loop-less Inv-loop μ-loop
 loop-less c =
-    omega (arith, left-some _ _ _ _ _ _ _ _ _ _ _ _ _ _ _ (ran-going (c .before .before .before .before .before .before .before .before .before .before .before .loop-test .taken) (c .before .before .before .before .before .before .before .before .before .before .before .before .loop .inv .0)))
+    let k = c .before .before .before .before .before .before .before .before .before in
+    omega (arith, left-some _ _ _ _ _ _ _ _ _ _ _ _ _ _ _ (ran-going (k .before .before .loop-test .taken) (k .before .before .before .loop .inv .0)))
 
 loop-again : tie.Need-loop-again Inv-loop μ-loop
 loop-again c =
-    let i = c .before .before .before .before .before .before .before .before .before .before .before .before .loop .inv in (
-      ran-more _ _ _ _ _ _ _ _ _ _ _ _ _ _ _ (ran-going (c .before .before .before .before .before .before .before .before .before .before .before .loop-test .taken) (i .0)) _ _ _ _ _ (c .before .before .before .before .before .before .before .advance .ensures) (c .goes-on2 .ensures),
+    let k = c .before .before .before .before .before .before .before in
+    let i = k .before .before .before .before .before .loop .inv in (
+      ran-more _ _ _ _ _ _ _ _ _ _ _ _ _ _ _ (ran-going (k .before .before .before .before .loop-test .taken) (i .0)) _ _ _ _ _ (k .advance .ensures) (c .goes-on2 .ensures),
       search needs,
       search needs,
       search needs,
