@@ -33,23 +33,36 @@ store-requires-2 : tie.Need-store-requires-2
 store-requires-2 c κs = let a = c .before .before .before .before .before .before .before .before in numbers-few (a .args .job .now) (a .args .front) (a .args .vertices) (a .pre)
 
 array-share-prefix-schedule : tie.Need-array-share-prefix-schedule
-array-share-prefix-schedule c = let a = c .before .before .before .before .before .before .before .before .before .before .before in factors-stored (a .args .job .now) (a .args .front) (a .args .vertices) (a .pre) _ (c .before .before .before .before .before .store .ensures) .fits
+array-share-prefix-schedule c =
+    let k = c .before .before .before .before .before in
+    let a = k .before .before .before .before .before .before in
+    factors-stored (a .args .job .now) (a .args .front) (a .args .vertices) (a .pre) _ (k .store .ensures) .fits
 
 slice-aggregate-put-stored : tie.Need-slice-aggregate-put-stored
-slice-aggregate-put-stored c = let a = c .before .before .before .before .before .before .before .before .before .before .before .before in factors-stored (a .args .job .now) (a .args .front) (a .args .vertices) (a .pre) _ (c .before .before .before .before .before .before .store .ensures) .size
+slice-aggregate-put-stored c =
+    let k = c .before .before .before .before .before .before in
+    let a = k .before .before .before .before .before .before in
+    factors-stored (a .args .job .now) (a .args .front) (a .args .vertices) (a .pre) _ (k .store .ensures) .size
 
 array-share-prefix-tables : tie.Need-array-share-prefix-tables
-array-share-prefix-tables c = let a = c .before .before .before .before .before .before .before .before .before .before .before .before in tables-stored (a .args .job .now) (a .args .front) (a .args .vertices) (a .pre) _ (c .before .before .before .store2 .ensures) .fits
+array-share-prefix-tables c =
+    let k = c .before .before .before in
+    let a = k .before .before .before .before .before .before .before .before .before in
+    tables-stored (a .args .job .now) (a .args .front) (a .args .vertices) (a .pre) _ (k .store2 .ensures) .fits
 
 slice-aggregate-put-stored-2 : tie.Need-slice-aggregate-put-stored-2
-slice-aggregate-put-stored-2 c = let a = c .before .before .before .before .before .before .before .before .before .before .before .before .before in tables-stored (a .args .job .now) (a .args .front) (a .args .vertices) (a .pre) _ (c .before .before .before .before .store2 .ensures) .size
+slice-aggregate-put-stored-2 c =
+    let k = c .before .before .before .before in
+    let a = k .before .before .before .before .before .before .before .before .before in
+    tables-stored (a .args .job .now) (a .args .front) (a .args .vertices) (a .pre) _ (k .store2 .ensures) .size
 
 put-stored-requires : tie.Need-put-stored-requires
 put-stored-requires c κs =
-    let a = c .before .before .before .before .before .before .before .before .before .before .before .before .before in
+    let k = c .before .before .before .before .before .before .before in
+    let a = k .before .before .before .before .before .before in
     record {
       accepted = a .pre;
-      schedule = factors-stored (a .args .job .now) (a .args .front) (a .args .vertices) (a .pre) _ (c .before .before .before .before .before .before .before .store .ensures) .is;
+      schedule = factors-stored (a .args .job .now) (a .args .front) (a .args .vertices) (a .pre) _ (k .store .ensures) .is;
       tables = tables-stored (a .args .job .now) (a .args .front) (a .args .vertices) (a .pre) _ (c .before .before .before .before .store2 .ensures) .is;
     }
 

@@ -40,7 +40,9 @@ same-length c = search needs
 
 returns : tie.Need-returns
 returns c =
-    let a = c .before .before .before .before .before .before .before .before .before .before .before in rw (call-is (a .args .job .now) (a .args .front) (a .args .vertices) (a .args .schedule .now) (a .args .tables .now) (a .pre)) at (c .before .before .put-call .ensures)
+    let k = c .before .before in
+    let a = k .before .before .before .before .before .before .before .before .before in
+    rw (call-is (a .args .job .now) (a .args .front) (a .args .vertices) (a .args .schedule .now) (a .args .tables .now) (a .pre)) at (k .put-call .ensures)
 
 pub put-stored-spec : {M : Type 1} → statement M
 put-stored-spec =
