@@ -12,8 +12,8 @@ use Rattle.search.specs.Job.{house}
 use Rattle.search.specs.Call.{Call, inForce, pairs, faultIn, faultOf, jobIn, jobFrom, jobOf}
 use Rattle.search.specs.Admitted.{Admissible}
 use Rattle.search.proofs.Admitted.{clear}
-use Rattle.consistency.specs.declared.Verdict.the-variants.{Admitted, Refused}
-use Rattle.consistency.specs.Verdict.{verdict}
+use Rattle.admission.specs.declared.Verdict.the-variants.{Admitted, Refused}
+use Rattle.admission.specs.Verdict.{verdict}
 use Rattle.admission.specs.Admission.{verdictOf}
 
 -- the call has no fault: its plan is accepted, with V vertices and M edges, and no row holds

@@ -1,2 +1,4 @@
 pub mod Verdicts
 pub mod Admits
+pub mod AnchorRule
+pub mod Goal

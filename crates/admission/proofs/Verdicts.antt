@@ -16,14 +16,14 @@ use Rattle.graph.specs.declared.PlanRead.the-variants as plan
 use Rattle.graph.specs.Plan.{Decoded, accepted, refused, header, afterHeader, decode, firstAt, edgesFrom, sizes}
 use Rattle.graph.specs.Lists.{Fault, edgesIn}
 use Rattle.graph.proofs.Tests.{or-right, and-true, not-false}
-use Rattle.cursor.proofs.Stored.{sized-by}
+use Rattle.plan_check.proofs.Checked.{sized-by}
 use Rattle.search.specs.Job.{house}
 use Rattle.search.specs.Call.{inForce, row, first, endsRow, tablesRow, scheduleRow, memoryRow, goalRow, edgesRow, faultIn, faultOf, jobIn, jobFrom, jobOf}
-use Rattle.consistency.specs.declared.Verdict.{Verdict}
-use Rattle.consistency.specs.declared.Verdict.the-variants.{Refused}
-use Rattle.consistency.specs.Verdict.{verdict}
+use Rattle.admission.specs.declared.Verdict.{Verdict}
+use Rattle.admission.specs.declared.Verdict.the-variants.{Refused}
+use Rattle.admission.specs.Verdict.{verdict}
 use Rattle.admission.specs.Admission.{verdictOf, Decided}
-use Rattle.admission.specs.Steps.{planVerdict}
+use Rattle.admission.specs.PlanVerdict.{planVerdict}
 
 -- ---- the rows of a call whose plan was checked
 

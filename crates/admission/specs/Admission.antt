@@ -6,8 +6,8 @@ use lib.ListN.{length}
 use Rattle.graph.specs.Plan.{decode}
 use Rattle.graph.specs.Lists.{edgesIn}
 use Rattle.search.specs.Call.{Memory, Call, faultOf, jobOf}
-use Rattle.consistency.specs.declared.Verdict.{Verdict}
-use Rattle.consistency.specs.Verdict.{verdict}
+use Rattle.admission.specs.declared.Verdict.{Verdict}
+use Rattle.admission.specs.Verdict.{verdict}
 
 unfoldable pub verdictOf : Call → Verdict
 verdictOf c = verdict (jobOf c .size) (length (edgesIn (decode (c .bytes)))) (faultOf c)

@@ -1,13 +1,22 @@
 // Whether a planner call is admitted: its refusals, decided before anything is written.
-ghost use mathlib.Core.Path.{_≡_};
-ghost use Rattle.admission.specs.Admission.{Decided};
-ghost use Rattle.admission.specs.Steps.{planVerdict};
-
+mod consistency;
 mod rows;
 
-use consistency::Verdict;
+ghost use mathlib.Core.Path.{_≡_};
+ghost use Rattle.graph.specs.declared.PlanRead.the-variants.{Sizes};
+ghost use Rattle.search.specs.Call.{first};
+ghost use Rattle.admission.specs.Verdict.{verdict};
+ghost use Rattle.admission.specs.Tried as steps;
+ghost use Rattle.admission.specs.Admission.{Decided};
+ghost use Rattle.admission.specs.PlanVerdict.{planVerdict};
 use graph::Header;
 use graph::PlanRead;
+
+// What is decided of a call: it is admitted, with V and M; or refused, number and position.
+pub enum Verdict {
+    Admitted(u32, u32),
+    Refused(u32, usize),
+}
 
 // The verdict on a plan by itself.
 fn plan_verdict(read: PlanRead) -> Verdict
@@ -33,11 +42,11 @@ pub fn fault(
 ) -> Verdict
     ensures { λ r. ⌜ Decided (now (bytes .entry)) start goal (now (anchor .entry)) (now (guides .entry)) «guide_count» (now (schedule .entry)) «route_len» «work_len» r ⌝ }
 {
-    let counts = plan_header::header(bytes);
+    let counts = plan_check::header(bytes);
     let Header::Counts(vertices, edges, at) = counts else {
-        return plan_verdict(plan_header::header_refusal(counts));
+        return plan_verdict(plan_check::header_refusal(counts));
     };
-    let checked = graph_check::check_edges(bytes, vertices, edges, at);
+    let checked = plan_check::check_edges(bytes, vertices, edges, at);
     let PlanRead::Sizes(_, _) = checked else {
         return plan_verdict(checked);
     };

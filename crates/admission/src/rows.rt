@@ -7,7 +7,8 @@ ghost use Rattle.graph.specs.declared.Header.the-variants.{Counts};
 ghost use Rattle.graph.specs.declared.PlanRead.the-variants.{Sizes};
 ghost use Rattle.graph.specs.Plan.{header, firstAt, edgesFrom, sizes};
 ghost use Rattle.admission.specs.Admission.{Decided};
-use consistency::Verdict;
+use crate::Verdict;
+use crate::consistency;
 
 // The most inadmissible heuristics.
 const MAX_GUIDES: u32 = 8;

@@ -18,7 +18,7 @@ use Rattle.job.specs.Asked.{scheduleOf, tablesOf, anchorOf, sheetsOf, callWith,
 use Rattle.job.specs.Printed.{printed, callText}
 use Rattle.job.proofs.Accepted.{Ready, accepted-ready}
 use Rattle.job.specs.Texts.{Texts}
-use Rattle.bench_text.specs.Steps.{Stored}
+use Rattle.bench_text.specs.Stored.{Stored}
 
 -- ---- numbers stored at an array's front
 

@@ -1,2 +1,1 @@
--- What the contracts cite.
-pub mod Steps
+pub mod Stored

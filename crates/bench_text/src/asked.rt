@@ -5,8 +5,9 @@ ghost use Rattle.job.specs.Reading.{jobRead};
 ghost use Rattle.job.specs.Asked.{callWith, callOf};
 ghost use Rattle.job.specs.Printed.{callText};
 ghost use Rattle.job.specs.Texts.{Texts};
-ghost use Rattle.bench_text.specs.Steps.{Stored};
+ghost use Rattle.bench_text.specs.Stored.{Stored};
 use job::Front;
+use job_reader::storing;
 
 // Words of lent memory: a schedule of 16 rounds, an anchor table and 8 guide sheets of 256 numbers; route
 // memory, a log, and work memory for 256 vertices and 2,048 edges.
@@ -47,7 +48,7 @@ fn put_call(
         &mut log,
         &mut work,
     );
-    answer_text::put_answer(out, answer, &route, &log)
+    printing::put_answer(out, answer, &route, &log)
 }
 
 // An accepted job, its factors and tables stored: the call is made.
@@ -79,8 +80,8 @@ pub fn put_job(out: &mut [u8], job: &[u8], front: Front, vertices: u32) -> usize
     let all = (1 + front.guides as usize) * vertices as usize;
     let mut schedule = [0u32; FACTORS];
     let mut tables = [0u32; TABLES];
-    job_numbers::store(job, front.factors, factors, &mut schedule);
-    job_numbers::store(job, front.tables, all, &mut tables);
+    storing::store(job, front.factors, factors, &mut schedule);
+    storing::store(job, front.tables, all, &mut tables);
     put_stored(
         out,
         job,

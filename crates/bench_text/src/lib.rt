@@ -12,6 +12,6 @@ pub fn bench_text(job: &[u8], out: &mut [u8]) -> usize
 {
     match job_reader::read(job) {
         JobRead::Accepted(front, vertices) => asked::put_job(out, job, front, vertices),
-        JobRead::Refused(n, p) => answer_text::put_refused(out, n, p),
+        JobRead::Refused(n, p) => printing::put_refused(out, n, p),
     }
 }

@@ -39,7 +39,7 @@ pub extern "C" fn secondcoop_read_plan_number(bytes: &[u8], at: usize, figures: 
 pub extern "C" fn secondcoop_read_job_number(bytes: &[u8], at: usize, figures: &mut [u64; 4])
     ensures { λ r. ⌜ now (figures .exit) ≡ readFigures (read jobGroups (now (bytes .entry)) at) ⌝ }
 {
-    *figures = of_read(job_number_reader::read_job_number(bytes, at));
+    *figures = of_read(leb128_reader::read_job_number(bytes, at));
 }
 
 // A plan number written at an offset.

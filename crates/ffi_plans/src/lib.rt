@@ -32,7 +32,7 @@ fn of_count(written: PlanWritten) -> [u64; 4]
 pub extern "C" fn secondcoop_check_plan(bytes: &[u8], figures: &mut [u64; 4])
     ensures { λ r. ⌜ now (figures .exit) ≡ planFigures (sizes (decode (now (bytes .entry)))) ⌝ }
 {
-    *figures = of_plan(graph_check::check(bytes));
+    *figures = of_plan(plan_check::check(bytes));
 }
 
 // A plan read into three lists.
@@ -49,7 +49,7 @@ pub extern "C" fn secondcoop_read_plan(
     ensures { λ r. ⌜ now (heads .exit) ≡ listAfter headOf (now (bytes .entry)) (now (heads .entry)) (readAnswer (now (bytes .entry)) (now (tails .entry)) (now (heads .entry)) (now (costs .entry))) ⌝ }
     ensures { λ r. ⌜ now (costs .exit) ≡ listAfter costOf (now (bytes .entry)) (now (costs .entry)) (readAnswer (now (bytes .entry)) (now (tails .entry)) (now (heads .entry)) (now (costs .entry))) ⌝ }
 {
-    *figures = of_plan(graph_reader::read(bytes, tails, heads, costs));
+    *figures = of_plan(plan_reader::read(bytes, tails, heads, costs));
 }
 
 // A plan written from V and three lists.
@@ -65,5 +65,5 @@ pub extern "C" fn secondcoop_write_plan(
     ensures { λ r. ⌜ now (figures .exit) ≡ countFigures (lists.writeAnswer vertices (now (tails .entry)) (now (heads .entry)) (now (costs .entry)) (now (out .entry))) ⌝ }
     ensures { λ r. ⌜ now (out .exit) ≡ lists.outAfter vertices (now (tails .entry)) (now (heads .entry)) (now (costs .entry)) (now (out .entry)) (lists.writeAnswer vertices (now (tails .entry)) (now (heads .entry)) (now (costs .entry)) (now (out .entry))) ⌝ }
 {
-    *figures = of_count(graph_writer::write(vertices, tails, heads, costs, out));
+    *figures = of_count(plan_writer::write(vertices, tails, heads, costs, out));
 }

@@ -1,5 +1,9 @@
 // A bench job read whole, refused or accepted: plan length, the plan, start, goal, allowance, rounds and
 // factors, guide count, anchor table, guide sheets.
+mod front;
+mod numbers;
+pub mod storing;
+
 ghost use mathlib.Core.Path.{_≡_};
 ghost use Rattle.job.specs.Reading.{jobRead, afterPlan, afterSizes};
 use graph::PlanRead;
@@ -26,8 +30,7 @@ fn read_tables(job: &[u8], front: Front, vertices: u32, edges: u32) -> JobRead
         return JobRead::Refused(14, 0);
     }
     let count = 1 + front.guides as usize;
-    let NumbersRead::Past(end) = job_numbers::past(job, front.tables, count * vertices as usize)
-    else {
+    let NumbersRead::Past(end) = numbers::past(job, front.tables, count * vertices as usize) else {
         return JobRead::Refused(14, 0);
     };
     if end < job.len() {
@@ -54,11 +57,11 @@ pub fn read(job: &[u8]) -> JobRead
     if MAX_BYTES < job.len() {
         return JobRead::Refused(14, 0);
     }
-    let FrontRead::Whole(front) = job_front::read_front(job) else {
+    let FrontRead::Whole(front) = front::read_front(job) else {
         return JobRead::Refused(14, 0);
     };
     let plan = front.plan;
     let end = front.end;
-    let checked = graph_check::check(&job[plan..end]);
+    let checked = plan_check::check(&job[plan..end]);
     read_plan(job, front, checked)
 }

@@ -14,17 +14,17 @@ use Rattle.graph.specs.declared.EdgeRead.the-variants.{Next, Fault}
 use Rattle.graph.specs.declared.PlanRead.the-variants.{Sizes}
 use Rattle.graph.specs.Plan.{accepted, firstAt, past, nextEdge, edgesFrom, sizes}
 use Rattle.graph.specs.Lists.{headOf, costOf, over, edgesIn}
-use Rattle.cursor.specs.Steps.{cursorPast}
+use Rattle.plan_check.specs.Past.{cursorPast}
 use Rattle.graph.proofs.OneEdge.{Read, read-edge, edge-passes, passes-within}
 use Rattle.graph.proofs.Plan.{First, Accepts, accepts}
-use Rattle.cursor.proofs.Stored.{Stored, stored-none, stored-next, first, cursor-next, sized-by}
+use Rattle.plan_check.proofs.Checked.{Stored, stored-none, stored-next, first, cursor-next, sized-by}
 use Rattle.search.specs.Outcome.{firstEdges}
 use Rattle.workspace.specs.declared.Size.{Size}
 use Rattle.workspace.specs.Layout.{base, graphWords, withEdge}
 use Rattle.workspace.specs.Holds.{Rising, end, then}
 use Rattle.workspace.proofs.Written.{set-after}
 use Rattle.workspace.proofs.Firsts.{passes-rising, below-none, length-graph}
-use Rattle.loader.specs.Steps.{edgeStored}
+use Rattle.loader.specs.Stored.{edgeStored}
 use Rattle.loader.proofs.Counts.{counts-first, firstsFrom, firsts-are}
 
 -- ---- one edge

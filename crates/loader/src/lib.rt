@@ -6,11 +6,12 @@ ghost use lib.Seq.{sets};
 ghost use Rattle.graph.specs.declared.PlanRead.the-variants.{Sizes};
 ghost use Rattle.graph.specs.Plan.{firstAt, nextEdge, edgesFrom, sizes};
 ghost use Rattle.graph.specs.Lists.{over, edgesIn};
-ghost use Rattle.cursor.specs.Steps.{cursorPast};
+ghost use Rattle.plan_check.specs.Past.{cursorPast};
 ghost use Rattle.workspace.specs.Layout.{base, graphWords};
-ghost use Rattle.loader.specs.Steps.{edgeStored};
+ghost use Rattle.loader.specs.Stored.{edgeStored};
 use graph::Cursor;
 use graph::EdgeRead;
+use plan_check::cursor;
 use workspace::Size;
 
 // The first edge of the vertices `from` up to, not including, `to` is edge j.

@@ -24,19 +24,19 @@ use Rattle.search.proofs.Standing.{begin-good}
 use Rattle.search.proofs.Runs.{begin-expansions}
 use Rattle.search.proofs.Guarantee.{guaranteed}
 use Rattle.workspace.specs.declared.Size.{Size}
-use Rattle.consistency.specs.declared.Verdict.{Verdict}
-use Rattle.consistency.specs.declared.Verdict.the-variants.{Admitted, Refused}
+use Rattle.admission.specs.declared.Verdict.{Verdict}
+use Rattle.admission.specs.declared.Verdict.the-variants.{Admitted, Refused}
 use Rattle.admission.specs.Admission.{verdictOf}
 use Rattle.admission.proofs.Admits.{Admits, admits, refuses}
-use Rattle.rounds.specs.declared.Query.{Query}
-use Rattle.rounds.specs.declared.Standing.{Standing}
-use Rattle.rounds.specs.Carried.{Asking, Stands}
-use Rattle.running.specs.Reached.{Given, Reaches, Running, Runs}
-use Rattle.stages.specs.Begun.{Called, Beginning, Begins}
-use Rattle.stages.specs.Finished.{AtEnd, Finishing, Finishes}
+use Rattle.planner.specs.declared.Query.{Query}
+use Rattle.planner.specs.declared.Standing.{Standing}
+use Rattle.planner.specs.Carried.{Asking, Stands}
+use Rattle.planner.specs.Reached.{Given, Reaches, Running, Runs}
+use Rattle.planner.specs.Begun.{Called, Beginning, Begins}
+use Rattle.planner.specs.Finished.{AtEnd, Finishing, Finishes}
 use Rattle.planner.specs.Planning.{refusalOf, Lent, Admission, Answers}
 use Rattle.planner.specs.Plan.{Planned}
-use Rattle.rounds.proofs.Jobs.{Accepted, accepts, job-size, job-edges, job-schedule}
+use Rattle.planner.proofs.Jobs.{Accepted, accepts, job-size, job-edges, job-schedule}
 
 -- ---- the header of a plan that is accepted
 

@@ -1,2 +1,7 @@
+pub mod Carried
+pub mod Reached
+pub mod Going
+pub mod Begun
+pub mod Finished
 pub mod Plan
 pub mod Planning

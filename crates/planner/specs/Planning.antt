@@ -7,12 +7,12 @@ use Rattle.search.specs.declared.Answer.{Answer}
 use Rattle.search.specs.declared.Answer.the-variants as answers
 use Rattle.search.specs.Call.{Call}
 use Rattle.search.specs.Outcome.{answer, memoryAfter}
-use Rattle.consistency.specs.declared.Verdict.{Verdict}
-use Rattle.consistency.specs.declared.Verdict.the-variants.{Admitted, Refused}
+use Rattle.admission.specs.declared.Verdict.{Verdict}
+use Rattle.admission.specs.declared.Verdict.the-variants.{Admitted, Refused}
 use Rattle.workspace.specs.declared.Size.{Size}
-use Rattle.rounds.specs.declared.Query.{Query}
-use Rattle.rounds.specs.Carried.{Asking}
-use Rattle.running.specs.Reached.{Given}
+use Rattle.planner.specs.declared.Query.{Query}
+use Rattle.planner.specs.Carried.{Asking}
+use Rattle.planner.specs.Reached.{Given}
 
 -- the answer to a call that is refused; 0 at 0 stands where it is not
 abbrev pub refusalOf : Verdict → Answer

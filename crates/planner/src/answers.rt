@@ -1,12 +1,13 @@
 // The answer to a planner call: refused, or the search begun, run and handed over.
 ghost use mathlib.Core.Path.{_≡_};
 ghost use Rattle.planner.specs.Planning.{refusalOf, Admission, Answers};
-use consistency::Verdict;
+use crate::Query;
+use crate::begin;
+use crate::finish;
+use crate::running;
+use admission::Verdict;
 use graph::Header;
-use rounds::Query;
 use search::Answer;
-use stages::begin;
-use stages::finish;
 use workspace::Size;
 
 // The answer to a call that is refused; number 0 stands for none.
@@ -35,7 +36,7 @@ pub fn answer(
     requires { ⌜ Admission z q (now bytes) (now anchor) (now guides) (now schedule) (now route) (now log) (now work) ⌝ }
     ensures { λ r. ⌜ Answers z q (now (bytes .entry)) (now (anchor .entry)) (now (guides .entry)) (now (schedule .entry)) budget (now (route .entry)) (now (log .entry)) (now (work .entry)) r (now (route .exit)) (now (log .exit)) (now (work .exit)) ⌝ }
 {
-    let Header::Counts(_, _, at) = plan_header::header(bytes) else {
+    let Header::Counts(_, _, at) = plan_check::header(bytes) else {
         return Answer::Refused(0, 0);
     };
     let first = begin::begin(bytes, work, route, anchor, schedule, z, q, at);

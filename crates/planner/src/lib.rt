@@ -1,12 +1,31 @@
 // The planner call: refused before anything is written, or the rounds over lent memory.
-ghost use Rattle.planner.specs.Plan.{callOf, Planned};
-
 mod answers;
+mod begin;
+mod finish;
+mod rounds;
+mod running;
 
-use consistency::Verdict;
-use rounds::Query;
+ghost use Rattle.planner.specs.Plan.{callOf, Planned};
+use admission::Verdict;
 use search::Answer;
+use search::Progress;
+use search::Step;
 use workspace::Size;
+
+// What is asked besides the plan: the ends, the number of inadmissible heuristics (guides), and the number
+// of rounds in force.
+pub struct Query {
+    pub start: u32,
+    pub goal: u32,
+    pub guides: u32,
+    pub rounds: u32,
+}
+
+// Where the search stands between two turns: what step 1 said, and the record of the search in hand.
+pub struct Standing {
+    pub step: Step,
+    pub progress: Progress,
+}
 
 // Plans a route: plan bytes, start and goal, the anchor heuristic (anchor table), the inadmissible ones (guide sheets) one
 // after another with their count, the schedule W1, W2, W1, W2, .. (empty: the house schedule), the budget

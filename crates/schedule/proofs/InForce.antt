@@ -13,7 +13,7 @@ use borrow.Author.Tests.{lt-ltb, le-ltb, eq-eqb, ne-eqb}
 use Rattle.search.specs.declared.Factors.{Factors}
 use Rattle.search.specs.Job.{house}
 use Rattle.search.specs.Call.{inForce, outOfRange, rising, pairs, row, scheduleRow}
-use Rattle.schedule.specs.Steps.{unfit, unfitAt}
+use Rattle.schedule.specs.Unfit.{unfit, unfitAt}
 
 -- ---- which schedule is in force
 

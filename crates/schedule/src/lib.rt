@@ -4,7 +4,7 @@ ghost use mathlib.Core.Path.{_≡_};
 ghost use lib.ListN.{length, getD};
 ghost use Rattle.search.specs.Job.{house};
 ghost use Rattle.search.specs.Call.{inForce, pairs, row, scheduleRow};
-ghost use Rattle.schedule.specs.Steps.{unfitAt};
+ghost use Rattle.schedule.specs.Unfit.{unfitAt};
 use search::Factors;
 
 // The house schedule: W1, W2, W1, W2, ..

@@ -1,1 +1,4 @@
+pub mod Scanning
+pub mod Expanding
+pub mod Due
 pub mod Keys

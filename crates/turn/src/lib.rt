@@ -1,15 +1,35 @@
-// One turn over work memory: step 3, and the turn with its log word.
+// Step 1 over work memory; and one turn: step 3, and the turn with its log word.
+mod expansion;
+mod rules;
+mod scan;
+mod vertices;
+
 ghost use mathlib.Core.Path.{_≡_};
-ghost use Prim.Native.Nat.{_*_, _<_, _≤_};
+ghost use Prim.Native.Nat.{_<_, _≤_, _*_};
 ghost use lib.ListN.{length, set};
-ghost use Rattle.search.specs.Turn.{candidate, expand};
-ghost use Rattle.search.specs.Bounds.{maxFactor, maxKey, Within};
+ghost use Rattle.search.specs.Job.{at};
+ghost use Rattle.search.specs.Turn.{least, stepOne, candidate, expand};
+ghost use Rattle.search.specs.Bounds.{maxFactor, DueWithin, maxKey, Within};
 ghost use Rattle.workspace.specs.Layout.{Room, verticesOf, graphOf, written};
 ghost use Rattle.turn.specs.Asked.{sheet, choiceOf, choiceWord, Asked};
 use search::Best;
 use search::Choice;
 use search::Factors;
+use search::Step;
 use workspace::Size;
+use workspace::vertex_words;
+
+// Step 1: nothing is open, the round is finished, or a turn is due.
+pub fn step_one(work: &[u32], anchor: &[u32], z: Size, f: Factors, goal: u32) -> Step
+    requires { ⌜ Room z (now work) × (z .vertices ≤ length (now anchor)) × (goal < z .vertices) × (f .w1 ≤ maxFactor) × (f .w2 ≤ maxFactor) ⌝ }
+    ensures { λ r. ⌜ (r ≡ stepOne (f .w2) (at (verticesOf z (now (work .entry))) goal .g) (least 0 (f .w1) (now (anchor .entry)) (verticesOf z (now (work .entry))))) × DueWithin (z .vertices) r ⌝ }
+{
+    let w1 = f.w1;
+    let w2 = f.w2;
+    let x = vertex_words::load(work, z, goal);
+    let b = scan::least(work, anchor, z, 0, w1);
+    rules::step_one(w2, x.g, b)
+}
 
 // The best of inadmissible heuristic i; nobody where there are no guides.
 fn candidate(work: &[u32], guides: &[u32], z: Size, i: u32, w1: u32) -> Best

@@ -2,3 +2,4 @@ pub mod Four
 pub mod Written
 pub mod Firsts
 pub mod Holding
+pub mod RoundStart

@@ -1,5 +1,7 @@
-// Work memory: where the graph and the vertices lie in lent words; vertices read and written there.
-pub mod layout;
+// Work memory: where the graph and the vertices lie in lent words, and it alone; edges read, vertices read and written there.
+pub mod edge_words;
+pub mod round_start;
+pub mod vertex_words;
 mod words;
 
 // The counts of vertices and edges.

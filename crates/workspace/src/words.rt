@@ -1,9 +1,11 @@
-// Marks as a sum, and the first word of the vertices.
+// The words of one vertex: marks as a sum, where they begin, and a vertex put over any words.
 ghost use mathlib.Core.Path.{_≡_};
 ghost use mathlib.Core.Bool.{cond};
-ghost use Prim.Native.Nat.{_<_, _≤_};
-ghost use Rattle.workspace.specs.Layout.{base, hasMark};
+ghost use Prim.Native.Nat.{_<_, _≤_, _+_, _*_};
+ghost use Rattle.workspace.specs.Layout.{base, hasMark, Room, withVertex, Fits};
+ghost use lib.ListN.{set};
 use crate::Size;
+use search::Vertex;
 
 // k where the mark is set.
 pub fn mark(k: u32, on: bool) -> u32
@@ -27,4 +29,19 @@ pub fn base(z: Size) -> usize
     let vertices = z.vertices;
     let edges = z.edges;
     (vertices as usize) + 1 + 2 * (edges as usize)
+}
+
+// Stores vertex p over any words.
+pub fn put(work: &mut [u32], z: Size, p: u32, x: Vertex)
+    requires { ⌜ Room z (now work) × (p < z .vertices) × Fits x ⌝ }
+    ensures { λ _. ⌜ now (work .exit) ≡ withVertex (now (work .entry)) (base z + 4 * p) x ⌝ }
+{
+    let o = base(z) + 4 * (p as usize);
+    let marks = mark(1, x.inad) + mark(2, x.anchor) + mark(4, x.opened) + mark(8, x.incons);
+    let g = x.g;
+    let v = x.v;
+    work[o] = g as u32;
+    work[o + 1] = v as u32;
+    work[o + 2] = x.pred;
+    work[o + 3] = marks;
 }

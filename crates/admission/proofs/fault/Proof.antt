@@ -1,8 +1,8 @@
 -- `fault` meets its contract: the plan, then the rows. Assumes nothing.
 use mathlib.Core.Path.{sym, ap, _∙_}
-use Rattle.plan_header.specs.Steps.{planRefusal}
-use Rattle.plan_header.proofs.Reading.{check-header, check-rest}
-use Rattle.cursor.proofs.Stored.{checked-sizes}
+use Rattle.plan_check.specs.Refusals.{planRefusal}
+use Rattle.plan_check.proofs.Counts.{check-header, check-rest}
+use Rattle.plan_check.proofs.Checked.{checked-sizes}
 use Rattle.admission.proofs.Verdicts.{plan-refused}
 use borrow.Author.Needs.{needs}
 use Rattle.admission.proofs.fault.Statement.{statement}

@@ -1,6 +1,6 @@
 -- `plan_verdict` meets its contract. Assumes nothing.
 use mathlib.Core.Path.{sym, ap}
-use Rattle.admission.specs.Steps.{planVerdict}
+use Rattle.admission.specs.PlanVerdict.{planVerdict}
 use borrow.Author.Needs.{needs}
 use Rattle.admission.proofs.plan_verdict.Statement.{statement}
 use Rattle.admission.proofs.plan_verdict.Tie as tie

@@ -7,7 +7,7 @@ use Rattle.ffi_plans.proofs.secondcoop_check_plan.Tie as tie
 use Rattle.ffi_plans.proofs.secondcoop_check_plan.Reads as reads
 use Rattle.ffi_plans.proofs.secondcoop_check_plan.Lts as lts
 use Rattle.ffi_plans.proofs.of_plan.Reads as of-plan-reads
-use Rattle.graph_check.proofs.check.Reads as check-reads
+use Rattle.plan_check.proofs.check.Reads as check-reads
 
 check-requires : tie.Need-check-requires
 check-requires c κs = search needs

@@ -8,7 +8,7 @@ use Rattle.ffi_plans.proofs.secondcoop_read_plan.Tie as tie
 use Rattle.ffi_plans.proofs.secondcoop_read_plan.Reads as reads
 use Rattle.ffi_plans.proofs.secondcoop_read_plan.Lts as lts
 use Rattle.ffi_plans.proofs.of_plan.Reads as of-plan-reads
-use Rattle.graph_reader.proofs.read.Reads as read-reads
+use Rattle.plan_reader.proofs.read.Reads as read-reads
 
 read-requires : tie.Need-read-requires
 read-requires c κs = search needs

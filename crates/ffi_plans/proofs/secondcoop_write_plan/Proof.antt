@@ -8,7 +8,7 @@ use Rattle.ffi_plans.proofs.secondcoop_write_plan.Tie as tie
 use Rattle.ffi_plans.proofs.secondcoop_write_plan.Reads as reads
 use Rattle.ffi_plans.proofs.secondcoop_write_plan.Lts as lts
 use Rattle.ffi_plans.proofs.of_count.Reads as of-count-reads
-use Rattle.graph_writer.proofs.write.Reads as write-reads
+use Rattle.plan_writer.proofs.write.Reads as write-reads
 
 write-requires : tie.Need-write-requires
 write-requires c κs = search needs

@@ -9,7 +9,7 @@ use Rattle.loader.proofs.load_edge.Statement.{statement}
 use Rattle.loader.proofs.load_edge.Tie as tie
 use Rattle.loader.proofs.load_edge.Reads as reads
 use Rattle.loader.proofs.load_edge.Lts as lts
-use Rattle.cursor.proofs.step.Reads as step-reads
+use Rattle.plan_check.proofs.cursor.step.Reads as step-reads
 use Rattle.loader.proofs.fill_first.Reads as fill-first-reads
 
 step-requires : tie.Need-step-requires

@@ -10,7 +10,7 @@ use Rattle.loader.proofs.load_graph.Statement.{statement}
 use Rattle.loader.proofs.load_graph.Tie as tie
 use Rattle.loader.proofs.load_graph.Reads as reads
 use Rattle.loader.proofs.load_graph.Lts as lts
-use Rattle.cursor.proofs.first.Reads as first-reads
+use Rattle.plan_check.proofs.cursor.first.Reads as first-reads
 use Rattle.loader.proofs.fill_first.Reads as fill-first-reads
 use Rattle.loader.proofs.load_edge.Reads as load-edge-reads
 

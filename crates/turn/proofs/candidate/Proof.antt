@@ -1,6 +1,6 @@
 -- `candidate` meets its contract. Assumes nothing.
 use mathlib.Core.Path.{sym}
-use Rattle.scan.proofs.Scanning.{within-nobody}
+use Rattle.turn.proofs.Scanning.{within-nobody}
 use Rattle.turn.proofs.Keys.{sheet-fits, candidate-none, candidate-part}
 use native.Mathlib.Omega.{arith}
 use borrow.Author.Needs.{needs}
@@ -8,7 +8,7 @@ use Rattle.turn.proofs.candidate.Statement.{statement}
 use Rattle.turn.proofs.candidate.Tie as tie
 use Rattle.turn.proofs.candidate.Reads as reads
 use Rattle.turn.proofs.candidate.Lts as lts
-use Rattle.scan.proofs.least.Reads as least-reads
+use Rattle.turn.proofs.scan.least.Reads as least-reads
 
 returns : tie.Need-returns
 returns c =

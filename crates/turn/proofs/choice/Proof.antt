@@ -7,7 +7,7 @@ use Rattle.turn.proofs.choice.Tie as tie
 use Rattle.turn.proofs.choice.Reads as reads
 use Rattle.turn.proofs.choice.Lts as lts
 use Rattle.turn.proofs.candidate.Reads as candidate-reads
-use Rattle.rules.proofs.choose.Reads as choose-reads
+use Rattle.turn.proofs.rules.choose.Reads as choose-reads
 
 candidate-requires : tie.Need-candidate-requires
 candidate-requires c κs = search needs

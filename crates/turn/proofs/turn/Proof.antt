@@ -4,7 +4,7 @@ use Rattle.turn.proofs.turn.Statement.{statement}
 use Rattle.turn.proofs.turn.Tie as tie
 use Rattle.turn.proofs.turn.Reads as reads
 use Rattle.turn.proofs.turn.Lts as lts
-use Rattle.expansion.proofs.expand.Reads as expand-reads
+use Rattle.turn.proofs.expansion.expand.Reads as expand-reads
 use Rattle.turn.proofs.choice.Reads as choice-reads
 use Rattle.turn.proofs.note.Reads as note-reads
 

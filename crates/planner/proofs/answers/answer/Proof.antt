@@ -6,10 +6,10 @@ use Rattle.planner.proofs.answers.answer.Statement.{statement}
 use Rattle.planner.proofs.answers.answer.Tie as tie
 use Rattle.planner.proofs.answers.answer.Reads as reads
 use Rattle.planner.proofs.answers.answer.Lts as lts
-use Rattle.plan_header.proofs.header.Reads as header-reads
-use Rattle.stages.proofs.begin.begin.Reads as begin-reads
-use Rattle.stages.proofs.finish.finish.Reads as finish-reads
-use Rattle.running.proofs.run.Reads as run-reads
+use Rattle.plan_check.proofs.header.Reads as header-reads
+use Rattle.planner.proofs.begin.begin.Reads as begin-reads
+use Rattle.planner.proofs.finish.finish.Reads as finish-reads
+use Rattle.planner.proofs.running.run.Reads as run-reads
 
 header-requires : tie.Need-header-requires
 header-requires c κs = search needs

@@ -1,0 +1,10 @@
+-- What is decided of a call by its first fault: it is admitted, with V and M of its plan, or refused.
+use Prim.Native.Nat.{ℕ}
+use Rattle.graph.specs.Lists.{Fault, none, fault}
+use Rattle.admission.specs.declared.Verdict.{Verdict}
+use Rattle.admission.specs.declared.Verdict.the-variants.{Admitted, Refused}
+
+-- a call is turned down where it has a fault; else it is admitted, with V and M of its plan
+unfoldable pub verdict : ℕ → ℕ → Fault → Verdict
+verdict v m none = Admitted v m
+verdict v m (fault n p) = Refused n p

@@ -1,2 +1,0 @@
-pub mod AnchorRule
-pub mod Goal

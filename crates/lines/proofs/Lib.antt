@@ -1,2 +1,0 @@
--- The laws behind the proofs of this crate.
-pub mod Each

@@ -1,0 +1,3 @@
+pub mod NextEdge
+pub mod Checked
+pub mod Counts

@@ -1,0 +1,18 @@
+-- `has_room` meets its contract. Assumes nothing.
+use borrow.Author.Tests.{lt-leb, le-leb}
+use Rattle.plan_reader.proofs.has_room.Statement.{statement}
+use Rattle.plan_reader.proofs.has_room.Tie as tie
+use Rattle.plan_reader.proofs.has_room.Reads as reads
+use Rattle.plan_reader.proofs.has_room.Lts as lts
+
+returns : tie.Need-returns
+returns c = simp (lt-leb _ _ (c .if1 .taken))
+
+returns-2 : tie.Need-returns-2
+returns-2 c = simp (le-leb _ _ (c .before .if1 .left), lt-leb _ _ (c .if2 .taken))
+
+returns-3 : tie.Need-returns-3
+returns-3 c = simp (le-leb _ _ (c .before .if1 .left), le-leb _ _ (c .if2 .left))
+
+pub has-room-spec : {M : Type 1} → statement M
+has-room-spec = tie.close (tie.spec returns returns-2 returns-3)

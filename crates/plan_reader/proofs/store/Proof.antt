@@ -1,0 +1,78 @@
+-- `store` meets its contract: an edge, or nothing. Assumes nothing.
+use mathlib.Core.Path.{sym, _∙_}
+use mathlib.Core.List.{[]}
+use Rattle.graph.specs.Lists.{tailOf, headOf, costOf}
+use Rattle.plan_reader.proofs.Filling.{cursor-kept, list-kept, cursor-moved, list-stored}
+use borrow.Author.Needs.{needs}
+use Rattle.plan_reader.proofs.store.Statement.{statement}
+use Rattle.plan_reader.proofs.store.Tie as tie
+use Rattle.plan_reader.proofs.store.Reads as reads
+use Rattle.plan_reader.proofs.store.Lts as lts
+use Rattle.plan_reader.proofs.checked.step_checked.Reads as step-checked-reads
+
+step-checked-requires : tie.Need-step-checked-requires
+step-checked-requires c κs = c .before .before .before .before .pre .1 .1 .1
+
+enum-known-edge : tie.Need-enum-known-edge
+enum-known-edge c = search needs
+
+enum-told : tie.Need-enum-told
+enum-told c = search needs
+
+returns : tie.Need-returns
+returns c =
+    let q = sym (c .before .before .step-checked .ensures) ∙ c .enum-told .given .1 in
+    let a = c .before .before .before .before .before .before .before .args in
+    (cursor-kept (a .cursor) tailOf (a .i) [] _ _ _ q, (list-kept (a .cursor) tailOf (a .i) _ _ _ _ q, (list-kept (a .cursor) headOf (a .i) _ _ _ _ q, list-kept (a .cursor) costOf (a .i) _ _ _ _ q)))
+
+mul-tails : tie.Need-mul-tails
+mul-tails c = search needs
+
+slice-write-tails : tie.Need-slice-write-tails
+slice-write-tails c = search needs
+
+mul-heads : tie.Need-mul-heads
+mul-heads c = search needs
+
+slice-write-heads : tie.Need-slice-write-heads
+slice-write-heads c = search needs
+
+mul-costs : tie.Need-mul-costs
+mul-costs c = search needs
+
+slice-write-costs : tie.Need-slice-write-costs
+slice-write-costs c = search needs
+
+same-length : tie.Need-same-length
+same-length c = search needs
+
+same-length-2 : tie.Need-same-length-2
+same-length-2 c = search needs
+
+same-length-3 : tie.Need-same-length-3
+same-length-3 c = search needs
+
+returns-2 : tie.Need-returns-2
+returns-2 c =
+    let q = sym (c .before .before .before .step-checked .ensures) ∙ c .before .edge .given .1 in
+    let a = c .before .before .before .before .before .before .before .before .args in
+    (cursor-moved (a .cursor) tailOf (a .i) [] _ _ _ q, (list-stored (a .cursor) tailOf (a .i) _ _ _ _ q, (list-stored (a .cursor) headOf (a .i) _ _ _ _ q, list-stored (a .cursor) costOf (a .i) _ _ _ _ q)))
+
+pub store-spec : {M : Type 1} → statement M
+store-spec =
+    tie.close
+    (tie.spec
+    step-checked-requires
+    enum-known-edge
+    enum-told
+    returns
+    mul-tails
+    slice-write-tails
+    mul-heads
+    slice-write-heads
+    mul-costs
+    slice-write-costs
+    same-length
+    same-length-2
+    same-length-3
+    returns-2)

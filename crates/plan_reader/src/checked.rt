@@ -1,0 +1,35 @@
+// The cursor's step through a plan that was checked: its numbers are read and no row is tried.
+ghost use mathlib.Core.Path.{_≡_};
+ghost use Rattle.graph.specs.Plan.{nextEdge};
+ghost use Rattle.plan_reader.specs.Stored.{Stepped};
+use graph::Cursor;
+use graph::Edge;
+use graph::EdgeRead;
+use leb128::NumberRead;
+
+// The next edge of a plan that was checked, and the cursor past it: its numbers pass their rows.
+pub fn step_checked(cursor: Cursor, bytes: &[u8], vertices: u32) -> EdgeRead
+    requires { ⌜ Stepped vertices (now bytes) cursor ⌝ }
+    ensures { λ r. ⌜ r ≡ nextEdge vertices (now (bytes .entry)) cursor ⌝ }
+{
+    let at = cursor.at;
+    let before = cursor.tail;
+    let NumberRead::Value(difference, head_at) = leb128_reader::read_plan_number(bytes, at) else {
+        return EdgeRead::Fault(1, at);
+    };
+    let NumberRead::Value(head, cost_at) = leb128_reader::read_plan_number(bytes, head_at) else {
+        return EdgeRead::Fault(1, head_at);
+    };
+    let NumberRead::Value(cost, end) = leb128_reader::read_plan_number(bytes, cost_at) else {
+        return EdgeRead::Fault(1, cost_at);
+    };
+    let tail = before + difference;
+    EdgeRead::Next(
+        Edge { tail, head, cost },
+        Cursor {
+            at: end,
+            tail,
+            least: head + 1,
+        },
+    )
+}

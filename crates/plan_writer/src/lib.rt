@@ -1,0 +1,194 @@
+// Writing plan bytes from V and three lists: a pass that refuses and measures, then a pass that writes.
+// The cursor is the reader's: the bytes so far, and what the next edge must rise above.
+ghost use mathlib.Core.Path.{_≡_};
+ghost use Prim.Native.Nat.{_+_, _<_, _≤_};
+ghost use lib.ListN.{length};
+ghost use lib.Seq.{sets};
+ghost use Rattle.graph.specs.Limits.{maxEdges};
+ghost use Rattle.graph.specs.Plan.{firstAt};
+ghost use Rattle.graph.specs.Lists.{over, edgesOf, edgeBytes, edgesBytes, bytesOf, writeAnswer, outAfter};
+ghost use Rattle.plan_writer.specs.Writing.{edgeAt, Equal, falls, edgeMeasured, edgesMeasured, planMeasured, EdgeFits, EdgesFit, PlanFits};
+use graph::Cursor;
+use graph::Edge;
+use graph::EdgeRead;
+use graph::MAX_COST;
+use graph::MAX_EDGES;
+use graph::MAX_VERTICES;
+use graph::PlanWritten;
+use leb128::NumberWritten;
+use plan_check::cursor;
+
+// The edge number i of three lists.
+fn edge_at(tails: &[u32], heads: &[u32], costs: &[u32], i: usize) -> Edge
+    requires { ⌜ Equal (now tails) (now heads) (now costs) × (i < length (now tails)) ⌝ }
+    ensures { λ r. ⌜ r ≡ edgeAt (now (tails .entry)) (now (heads .entry)) (now (costs .entry)) i ⌝ }
+{
+    let tail = tails[i];
+    let head = heads[i];
+    let cost = costs[i];
+    Edge { tail, head, cost }
+}
+
+// Does an edge fall behind the one before it: by its tail, or under the same tail by its head? Compared as one number.
+fn falls_behind(cursor: Cursor, edge: Edge) -> bool
+    ensures { λ r. ⌜ r ≡ falls cursor edge ⌝ }
+{
+    let found = 4294967296 * (edge.tail as u64) + (edge.head as u64);
+    let least = 4294967296 * (cursor.tail as u64) + (cursor.least as u64);
+    found < least
+}
+
+// The edge number i through its rows, and the cursor past its bytes.
+fn measure_edge(vertices: u32, cursor: Cursor, i: usize, edge: Edge) -> EdgeRead
+    requires { ⌜ cursor .at ≤ 4294967295 ⌝ }
+    ensures { λ r. ⌜ r ≡ edgeMeasured vertices cursor i edge ⌝ }
+{
+    if vertices <= edge.tail {
+        return EdgeRead::Fault(4, i);
+    }
+    if vertices <= edge.head {
+        return EdgeRead::Fault(4, i);
+    }
+    if falls_behind(cursor, edge) {
+        return EdgeRead::Fault(6, i);
+    }
+    if MAX_COST < edge.cost {
+        return EdgeRead::Fault(5, i);
+    }
+    let rise = leb128_writer::plan_number_len(edge.tail - cursor.tail);
+    let size = rise
+        + leb128_writer::plan_number_len(edge.head)
+        + leb128_writer::plan_number_len(edge.cost);
+    let past = Cursor {
+        at: cursor.at + size,
+        tail: edge.tail,
+        least: edge.head + 1,
+    };
+    EdgeRead::Next(edge, past)
+}
+
+// All edges through their rows, and the count of bytes where the first one's stand at `start`.
+fn measure_edges(
+    vertices: u32,
+    tails: &[u32],
+    heads: &[u32],
+    costs: &[u32],
+    start: usize,
+) -> PlanWritten
+    requires { ⌜ Equal (now tails) (now heads) (now costs) × (length (now tails) ≤ maxEdges) × (start ≤ 6) ⌝ }
+    ensures { λ r. ⌜ r ≡ edgesMeasured vertices (firstAt start) 0 (edgesOf (now (tails .entry)) (now (heads .entry)) (now (costs .entry))) ⌝ }
+{
+    let mut cursor = cursor::first(start);
+    let mut i = 0;
+    while i < tails.len() {
+        let edge = edge_at(tails, heads, costs, i);
+        match measure_edge(vertices, cursor, i, edge) {
+            EdgeRead::Next(_, past) => {
+                cursor = past;
+            }
+            EdgeRead::Fault(n, p) => {
+                return PlanWritten::Rejected(n, p);
+            }
+        }
+        i += 1;
+    }
+    PlanWritten::Count(cursor.at)
+}
+
+// V and the lists through their rows, and the count of bytes.
+fn measure(vertices: u32, tails: &[u32], heads: &[u32], costs: &[u32]) -> PlanWritten
+    ensures { λ r. ⌜ r ≡ planMeasured vertices (now (tails .entry)) (now (heads .entry)) (now (costs .entry)) ⌝ }
+{
+    if vertices == 0 {
+        return PlanWritten::Rejected(2, 0);
+    }
+    if MAX_VERTICES < vertices {
+        return PlanWritten::Rejected(2, 0);
+    }
+    if (MAX_EDGES as usize) < tails.len() {
+        return PlanWritten::Rejected(3, 0);
+    }
+    if heads.len() != tails.len() {
+        return PlanWritten::Rejected(3, 0);
+    }
+    if costs.len() != tails.len() {
+        return PlanWritten::Rejected(3, 0);
+    }
+    let count = tails.len() as u32;
+    let start = leb128_writer::plan_number_len(vertices) + leb128_writer::plan_number_len(count);
+    measure_edges(vertices, tails, heads, costs, start)
+}
+
+// Writes an edge's bytes after an edge with this tail, and gives the offset past them.
+fn lay_edge(out: &mut [u8], at: usize, tail: u32, edge: Edge) -> usize
+    requires { ⌜ EdgeFits (now out) at tail edge ⌝ }
+    ensures { λ r. ⌜ r ≡ at + length (edgeBytes tail edge) ⌝ }
+    ensures { λ _. ⌜ now (out .exit) ≡ sets (now (out .entry)) at (edgeBytes tail edge) ⌝ }
+{
+    let rise = edge.tail - tail;
+    let NumberWritten::Next(head_at) = leb128_writer::write_plan_number(out, at, rise) else {
+        return at;
+    };
+    let NumberWritten::Next(cost_at) = leb128_writer::write_plan_number(out, head_at, edge.head)
+    else {
+        return at;
+    };
+    let NumberWritten::Next(end) = leb128_writer::write_plan_number(out, cost_at, edge.cost) else {
+        return at;
+    };
+    end
+}
+
+// Writes the bytes of all edges from `start` on.
+fn lay_edges(tails: &[u32], heads: &[u32], costs: &[u32], out: &mut [u8], start: usize)
+    requires { ⌜ EdgesFit (now out) start (now tails) (now heads) (now costs) ⌝ }
+    ensures { λ _. ⌜ now (out .exit) ≡ sets (now (out .entry)) start (edgesBytes 0 (edgesOf (now (tails .entry)) (now (heads .entry)) (now (costs .entry)))) ⌝ }
+{
+    let mut at = start;
+    let mut tail = 0;
+    let mut i = 0;
+    while i < tails.len() {
+        let edge = edge_at(tails, heads, costs, i);
+        at = lay_edge(out, at, tail, edge);
+        tail = edge.tail;
+        i += 1;
+    }
+}
+
+// Writes the bytes of a plan that has no refusal and has room.
+fn lay(vertices: u32, tails: &[u32], heads: &[u32], costs: &[u32], out: &mut [u8])
+    requires { ⌜ PlanFits (now out) vertices (now tails) (now heads) (now costs) ⌝ }
+    ensures { λ _. ⌜ now (out .exit) ≡ over (bytesOf vertices (edgesOf (now (tails .entry)) (now (heads .entry)) (now (costs .entry)))) (now (out .entry)) ⌝ }
+{
+    let count = tails.len() as u32;
+    let NumberWritten::Next(count_at) = leb128_writer::write_plan_number(out, 0, vertices) else {
+        return;
+    };
+    let NumberWritten::Next(edges_at) = leb128_writer::write_plan_number(out, count_at, count)
+    else {
+        return;
+    };
+    lay_edges(tails, heads, costs, out, edges_at);
+}
+
+// Writes a plan: the count of its bytes; or a refusal, number and position, with nothing written.
+pub fn write(
+    vertices: u32,
+    tails: &[u32],
+    heads: &[u32],
+    costs: &[u32],
+    out: &mut [u8],
+) -> PlanWritten
+    ensures { λ r. ⌜ r ≡ writeAnswer vertices (now (tails .entry)) (now (heads .entry)) (now (costs .entry)) (now (out .entry)) ⌝ }
+    ensures { λ r. ⌜ now (out .exit) ≡ outAfter vertices (now (tails .entry)) (now (heads .entry)) (now (costs .entry)) (now (out .entry)) r ⌝ }
+{
+    let measured = measure(vertices, tails, heads, costs);
+    let PlanWritten::Count(size) = measured else {
+        return measured;
+    };
+    if out.len() < size {
+        return PlanWritten::Rejected(11, 0);
+    }
+    lay(vertices, tails, heads, costs, out);
+    PlanWritten::Count(size)
+}

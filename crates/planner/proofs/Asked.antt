@@ -1,0 +1,92 @@
+-- What a call that is not refused gives the code: numbers in range, tables and memory long enough. Assumes nothing.
+use Prim.Native.Nat.{ℕ, zero, suc, _+_, _-_, _*_, _≤_, _<_}
+use native.Mathlib.Nat.{mul-le-mul-left, mul-le-mul-right}
+use native.Mathlib.Omega.{arith}
+use mathlib.Core.Path.{_≡_, refl, sym, ap, _∙_, subst}
+use mathlib.Core.List.{List, [], _∷_}
+use lib.ListN.{length, getD}
+use Rattle.graph.specs.Limits.{maxVertices}
+use Rattle.graph.specs.OneForm.{Within}
+use Rattle.graph.proofs.Within.{accepted-within}
+use Rattle.search.specs.declared.Factors.{Factors}
+use Rattle.search.specs.Job.{factors, house}
+use Rattle.search.specs.Call.{Call, inForce, pairs, jobOf}
+use Rattle.search.specs.Bounds.{maxFactor}
+use Rattle.search.specs.Admitted.{Admissible}
+use Rattle.search.proofs.Facts.{Valid, InRange}
+use Rattle.search.proofs.Admitted.{clear, admitted}
+use Rattle.workspace.specs.declared.Size.{Size}
+use Rattle.workspace.specs.Layout.{base, Room}
+use Rattle.planner.specs.declared.Query.{Query}
+use Rattle.planner.specs.Carried.{Asking, Carries}
+use Rattle.search.specs.declared.Progress.{Progress}
+use Rattle.search.specs.Rounds.{State}
+use Rattle.search.proofs.Words.{route-kept}
+use Rattle.planner.proofs.Jobs.{Accepted, accepts, job-size, job-edges, job-schedule}
+
+half : (ws : List ℕ) → 2 * length (pairs ws) ≤ length ws
+unfolding pairs
+half [] = omega arith
+half (u ∷ []) = omega arith
+half (u ∷ v ∷ ws) = omega (arith, half ws)
+
+module _ (c : Call) (z : Size) (q : Query) (a : Asking c z q) where
+  plan : Accepted c
+  plan = accepts c (a .admitted)
+
+  rows : Admissible c (plan .v) (plan .es)
+  rows = clear c (plan .v) (plan .es) (plan .rows)
+
+  valid : Valid (jobOf c)
+  valid = admitted c (a .admitted)
+
+  same : z .vertices ≡ plan .v
+  same = a .vertices ∙ job-size c plan
+
+  pub start-in : q .start < z .vertices
+  start-in = omega (arith, rows .starts, a .start, same)
+
+  pub goal-in : q .goal < z .vertices
+  goal-in = omega (arith, rows .ends, a .goal, same)
+
+  pub anchor-long : (anchor : List ℕ) → anchor ≡ c .anchor → z .vertices ≤ length anchor
+  anchor-long anchor e = omega (arith, ap length e, rows .anchored, same)
+
+  pub small : z .vertices ≤ maxVertices
+  small = omega (arith, accepted-within (c .bytes) (plan .v) (plan .es) (plan .plan) .vertices, same)
+
+  pub few : c .count ≤ 8
+  few = rows .few
+
+  pub sheets-long : (i : ℕ) (guides : List ℕ) → i ≤ c .count → guides ≡ c .sheets → i * z .vertices ≤ length guides
+  sheets-long i guides h e =
+      omega (arith, ap length e, rows .guided, ap (λ (n : ℕ). c .count * n) same, ap (λ (n : ℕ). i * n) same, mul-le-mul-right (plan .v) h)
+
+  pub in-range : (r : ℕ) → r < q .rounds → InRange (factors (jobOf c) r .w1) (factors (jobOf c) r .w2)
+  in-range r h = valid .range r (omega (arith, a .rounds))
+
+  pub route-room : z .vertices ≤ length (c .memory .route)
+  route-room = omega (arith, rows .route-room, same)
+
+  pub work-room : Room z (c .memory .work)
+  unfolding base
+  work-room = omega (arith, rows .work-room, same, a .edges, ap length (job-edges c plan))
+
+  -- at most 16 rounds, of two factors each
+  pub schedule-short : length (inForce house (c .schedule)) ≤ 32
+  schedule-short = omega (arith, rows .schedule .few, rows .schedule .two)
+
+  pub rounds-few : length (jobOf c .schedule) ≤ 16
+  rounds-few = omega (arith, ap length (job-schedule c), half (inForce house (c .schedule)), schedule-short)
+
+-- route memory has V words
+pub route-long :
+    (c : Call) (z : Size) (q : Query) → Asking c z q → (s : State) (p : Progress) (work route : List ℕ) → Carries c z s p work route →
+    z .vertices ≤ length route
+route-long c z q a s p work route k =
+    omega (
+      arith,
+      ap length (k .kept),
+      route-kept (jobOf c) s (c .memory .route) (λ l. k .ok .kept .route l .short) (omega (arith, route-room c z q a, a .vertices)),
+      route-room c z q a,
+    )

@@ -1,0 +1,157 @@
+-- Turns up to a budget, as memory carries them. Assumes nothing.
+use Prim.Native.Nat.{ℕ, zero, suc, _+_, _-_, _≤_, _<_}
+use native.Mathlib.Omega.{arith}
+use native.Mathlib.Numerals.{add-one}
+use mathlib.Core.Path.{_≡_, refl, sym, ap, _∙_, subst}
+use mathlib.Core.Bool.{Bool, true, false, _&&_}
+use mathlib.Core.List.{List, [], _∷_, _++_, append-nil}
+use lib.ListN.{length}
+use lib.Dec.{ltb}
+use borrow.Author.Tests.{ltb-true, ltb-false}
+use Rattle.search.specs.declared.Step.{Step}
+use Rattle.search.specs.declared.Step.the-variants.{Stuck, Finished, Due}
+use Rattle.search.specs.Job.{Job}
+use Rattle.search.specs.Rounds.{Stand, Moment, choice, begin, advance, run, moments}
+use Rattle.search.specs.Call.{Call, jobOf}
+use Rattle.search.proofs.Runs.{Going-on, over, due, going-on, advance-over, run-due, run-over, moments-due, moments-over, moments-within, run-suc}
+use Rattle.workspace.specs.declared.Size.{Size}
+use Rattle.planner.specs.declared.Query.{Query}
+use Rattle.planner.specs.declared.Standing.{Standing}
+use Rattle.planner.specs.Carried.{Asking}
+use Rattle.planner.specs.Reached.{Given, Reaches, Advancing, Advances, Running, Runs}
+use Rattle.planner.specs.Going.{isDue}
+
+-- ---- one turn more, at the end
+
+module _ (job : Job) where
+  moments-suc-by :
+      (n : ℕ) (z : Stand) → moments job (suc n) (advance job z) ≡ moments job n (advance job z) ++ moments job 1 (run job n (advance job z)) → Going-on z →
+      moments job (suc (suc n)) z ≡ moments job (suc n) z ++ moments job 1 (run job (suc n) z)
+  moments-suc-by n z ih (over _ f) =
+      rw (moments-over job z f (suc (suc n)), moments-over job z f (suc n), run-over job z f (suc n), moments-over job z f 1) refl
+  moments-suc-by n z ih (due _ m a e) =
+      rw (moments-due job (suc n) z m a e, moments-due job n z m a e, run-due job n z m a e) (ap (λ (ts : List Moment). record { before = z .state; choice = choice job m a (z .state) } ∷ ts) ih)
+
+  pub moments-suc : (n : ℕ) (z : Stand) → moments job (suc n) z ≡ moments job n z ++ moments job 1 (run job n z)
+  unfolding run moments
+  moments-suc zero z = refl
+  moments-suc (suc n) z = moments-suc-by n z (moments-suc n (advance job z)) (going-on z)
+
+  -- where no turn is due after n of them, more make no difference
+  module _ (z : Stand) (n : ℕ) (f : (m a : ℕ) → run job n z .step ≡ Due m a → ⊥) where
+    pub run-stays : (k : ℕ) → run job (k + n) z ≡ run job n z
+    run-stays zero = ap (λ (x : ℕ). run job x z) (omega arith)
+    run-stays (suc k) =
+        ap (λ (x : ℕ). run job x z) (omega arith) ∙ run-suc job (k + n) z ∙ ap (advance job) (run-stays k) ∙ advance-over job (run job n z) f
+
+    pub moments-stay : (k : ℕ) → moments job (k + n) z ≡ moments job n z
+    moments-stay zero = ap (λ (x : ℕ). moments job x z) (omega arith)
+    moments-stay (suc k) =
+        ap (λ (x : ℕ). moments job x z) (omega arith)
+        ∙ moments-suc (k + n) z
+        ∙ ap (λ (y : Stand). moments job (k + n) z ++ moments job 1 y) (run-stays k)
+        ∙ ap (λ (ts : List Moment). moments job (k + n) z ++ ts) (moments-over job (run job n z) f 1)
+        ∙ append-nil (moments job (k + n) z)
+        ∙ moments-stay k
+
+-- ---- the loop
+
+-- the search stands where so many turns lead, `left` being left of them
+pub record Ran
+    (z : Size) (q : Query) (anchor guides schedule : List ℕ) (n : ℕ) (s : Standing) (work route log : List ℕ) (left : ℕ) (going : Bool) (r : Standing)
+    (work′ route′ log′ : List ℕ) : Type 0 where
+  pub within : left ≤ n
+  pub goes : going ≡ (isDue (r .step) && ltb 0 left)
+  pub to : Runs z q anchor guides schedule (n - left) s work route log r work′ route′ log′
+
+-- the loop's test
+module _ {z : Size} {q : Query} {anchor guides schedule : List ℕ} {n : ℕ} {s : Standing} {work route log : List ℕ} {left : ℕ} {going : Bool}
+    {r : Standing} {work′ route′ log′ : List ℕ} where
+  pub ran-going :
+      going ≡ true → Ran z q anchor guides schedule n s work route log left going r work′ route′ log′ →
+      Ran z q anchor guides schedule n s work route log left true r work′ route′ log′
+  ran-going e k = subst (λ (b : Bool). Ran z q anchor guides schedule n s work route log left b r work′ route′ log′) e k
+
+  pub ran-stopped :
+      going ≡ false → Ran z q anchor guides schedule n s work route log left going r work′ route′ log′ →
+      Ran z q anchor guides schedule n s work route log left false r work′ route′ log′
+  ran-stopped e k = subst (λ (b : Bool). Ran z q anchor guides schedule n s work route log left b r work′ route′ log′) e k
+
+due-both : (t : Step) (b : Bool) → (isDue t && b) ≡ true → b ≡ true
+due-both Stuck b h = absurd (let z : _≡_ {A = ℕ} 0 1 = cc in omega arith)
+due-both Finished b h = absurd (let z : _≡_ {A = ℕ} 0 1 = cc in omega arith)
+due-both (Due m a) b h = h
+
+-- no turn is left, or none is due
+due-none : (t : Step) (left : ℕ) → (isDue t && ltb 0 left) ≡ false → (0 < left) → (m a : ℕ) → t ≡ Due m a → ⊥
+due-none Stuck left h l m a e = let z : _≡_ {A = ℕ} 0 1 = cc in omega arith
+due-none Finished left h l m a e = let z : _≡_ {A = ℕ} 0 1 = cc in omega arith
+due-none (Due k b) left h l m a e = let g : left ≤ 0 = ltb-false 0 left h in omega arith
+
+module _ (z : Size) (q : Query) (anchor guides schedule : List ℕ) (n : ℕ) (s : Standing) (work route log : List ℕ) where
+  pub ran-none : (going : Bool) → going ≡ (isDue (s .step) && ltb 0 n) → Ran z q anchor guides schedule n s work route log n going s work route log
+  unfolding run moments
+  ran-none going e =
+      let d : n - n ≡ 0 = omega arith in
+      record { within = omega arith; goes = e; to = rw d (record { runs = λ c a g k. k }) }
+
+  module _ (left : ℕ) (r : Standing) (work′ route′ log′ : List ℕ) where
+    module _ (k : Ran z q anchor guides schedule n s work route log left true r work′ route′ log′) where
+      pub left-some : 0 < left
+      left-some = ltb-true 0 left (due-both (r .step) (ltb 0 left) (sym (k .goes)))
+
+      pub advancing : Running z q anchor guides schedule s work route log → n ≤ 4294967295 → Advancing z q anchor guides schedule r work′ route′ log′
+      advancing h few =
+          let job : Job = jobOf (h .call) in
+          let y : Reaches (h .call) z (run job (n - left) (begin job)) (moments job (n - left) (begin job)) r work′ route′ log′
+          = k .to .runs (h .call) (h .asking) (h .given) (h .reaches) in
+          record {
+            call = h .call;
+            stand = run job (n - left) (begin job);
+            turns = moments job (n - left) (begin job);
+            asking = h .asking;
+            given = h .given;
+            reaches = y;
+            more = omega (arith, y .turns, moments-within job (n - left) (begin job), left-some, k .within);
+          }
+
+      pub ran-more :
+          (t : Standing) (work″ route″ log″ : List ℕ) (going : Bool) → Advances z q anchor guides schedule r work′ route′ log′ t work″ route″ log″ →
+          going ≡ (isDue (t .step) && ltb 0 (left - 1)) → Ran z q anchor guides schedule n s work route log (left - 1) going t work″ route″ log″
+      ran-more t work″ route″ log″ going v e =
+          let d : n - (left - 1) ≡ suc (n - left) = omega (arith, left-some, k .within) in
+          record {
+            within = omega (arith, k .within);
+            goes = e;
+            to =
+                rw d
+                (record {
+                  runs =
+                      λ c a g h.
+                      let job : Job = jobOf c in
+                      rw (run-suc job (n - left) (begin job), moments-suc job (n - left) (begin job))
+                      (v .advances c (run job (n - left) (begin job)) (moments job (n - left) (begin job)) a g (k .to .runs c a g h));
+                });
+          }
+
+    -- the loop's end
+    pub ran-all : Ran z q anchor guides schedule n s work route log left false r work′ route′ log′ → Runs z q anchor guides schedule n s work route log r work′ route′ log′
+    ran-all k = by left refl
+      where
+        by : (x : ℕ) → left ≡ x → Runs z q anchor guides schedule n s work route log r work′ route′ log′
+        by zero e = let d : n - left ≡ n = omega arith in subst (λ (x : ℕ). Runs z q anchor guides schedule x s work route log r work′ route′ log′) d (k .to)
+        by (suc x) e =
+            record {
+              runs =
+                  λ c a g h.
+                  let job : Job = jobOf c in
+                  let y : Reaches c z (run job (n - left) (begin job)) (moments job (n - left) (begin job)) r work′ route′ log′ = k .to .runs c a g h in
+                  let f : (m b : ℕ) → run job (n - left) (begin job) .step ≡ Due m b → ⊥
+                  = λ m b i. due-none (r .step) left (sym (k .goes)) (omega arith) m b (y .stands .step ∙ i) in
+                  let d : left + (n - left) ≡ n = omega (arith, k .within) in
+                  let u : run job n (begin job) ≡ run job (n - left) (begin job)
+                  = ap (λ (j : ℕ). run job j (begin job)) (sym d) ∙ run-stays job (begin job) (n - left) f left in
+                  let w : moments job n (begin job) ≡ moments job (n - left) (begin job)
+                  = ap (λ (j : ℕ). moments job j (begin job)) (sym d) ∙ moments-stay job (begin job) (n - left) f left in
+                  rw (u, w) y;
+            }

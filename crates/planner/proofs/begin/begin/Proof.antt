@@ -1,0 +1,57 @@
+-- `begin` meets its contract: the loaded graph, the first vertices, and step 1. Assumes nothing.
+use borrow.Author.Needs.{needs}
+use Rattle.planner.proofs.Beginning.{load-asks, first-asks, settle-asks, begins-there}
+use Rattle.planner.proofs.begin.begin.Statement.{statement}
+use Rattle.planner.proofs.begin.begin.Tie as tie
+use Rattle.planner.proofs.begin.begin.Reads as reads
+use Rattle.planner.proofs.begin.begin.Lts as lts
+use Rattle.planner.proofs.rounds.settle.Reads as settle-reads
+use Rattle.progress.proofs.at_first.Reads as at-first-reads
+use Rattle.loader.proofs.load_graph.Reads as load-graph-reads
+use Rattle.workspace.proofs.round_start.at_first.Reads as opening-at-first-reads
+
+load-graph-requires : tie.Need-load-graph-requires
+load-graph-requires c κs = load-asks _ _ _ _ _ _ _ _ _ (c .before .before .before .before .before .before .pre .called)
+
+at-first-requires : tie.Need-at-first-requires
+at-first-requires c κs =
+    let l = c .before .before .before in
+    let h = l .before .before .before .before .before .before .before .pre in
+    first-asks _ _ _ _ _ _ _ _ _ (h .called) _ (l .load-graph .ensures)
+
+at-first-requires-2 : tie.Need-at-first-requires-2
+at-first-requires-2 c κs = search needs
+
+settle-requires : tie.Need-settle-requires
+settle-requires c κs =
+    let l = c .before .before .before .before .before .before .before .before .before in
+    let h = l .before .before .before .before .before .before .before .pre in
+    settle-asks _ _ _ _ _ _ _ _ _ (h .called) _ (l .load-graph .ensures) _ _ (c .before .before .before .before .before .at-first .ensures) (c .before .before .at-first2 .ensures)
+
+same-length : tie.Need-same-length
+same-length c = search needs
+
+same-length-2 : tie.Need-same-length-2
+same-length-2 c = search needs
+
+returns : tie.Need-returns
+returns c =
+    let k = c .before .before .before .before .before .before .before in
+    record {
+      begins =
+          λ d h.
+          begins-there d _ _ _ _ _ _ _ _ h _ (k .before .before .before .before .before .before .before .load-graph .ensures) _ _ (k .before .before .before .at-first .ensures) (k .at-first2 .ensures)
+          _ _ _ (c .before .before .before .before .settle .ensures);
+    }
+
+pub begin-spec : {M : Type 1} → statement M
+begin-spec =
+    tie.close
+    (tie.spec
+    load-graph-requires
+    at-first-requires
+    at-first-requires-2
+    settle-requires
+    same-length
+    same-length-2
+    returns)

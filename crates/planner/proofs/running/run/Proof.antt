@@ -1,0 +1,87 @@
+-- `run` meets its contract: it stands where so many turns lead. Assumes nothing.
+use Prim.Native.Nat.{_≤_}
+use native.Mathlib.Omega.{arith}
+use mathlib.Core.Path.{_≡_, refl, _∙_}
+use lib.ListN.{length}
+use borrow.Author.Needs.{needs}
+use Rattle.planner.proofs.Rerun.{Ran, ran-none, ran-going, ran-stopped, left-some, advancing, ran-more, ran-all}
+use Rattle.planner.proofs.running.run.Statement.{statement}
+use Rattle.planner.proofs.running.run.Tie as tie
+use Rattle.planner.proofs.running.run.Reads as reads
+use Rattle.planner.proofs.running.run.Lts as lts
+use Rattle.planner.proofs.running.advance.Reads as advance-reads
+use Rattle.planner.proofs.running.goes_on.Reads as goes-on-reads
+
+abbrev Inv-loop : tie.InvT-loop
+Inv-loop work₀ route₀ log₀ anchor guides schedule z q budget stand₀ left₀ going₀ work route log stand left going =
+    Ran z q anchor guides schedule budget stand₀ work₀ route₀ log₀ left going stand work route log
+    × (length work ≡ length work₀) × (length route ≡ length route₀) × (length log ≡ length log₀)
+
+abbrev μ-loop : tie.MeasureT-loop
+μ-loop work₀ route₀ log₀ anchor guides schedule z q budget stand₀ left₀ going₀ work route log stand left going =
+    left
+
+goes-on-requires : tie.Need-goes-on-requires Inv-loop μ-loop
+goes-on-requires c κs = search needs
+
+loop-holds : tie.Need-loop-holds Inv-loop μ-loop
+loop-holds c = (ran-none _ _ _ _ _ _ _ _ _ _ _ (c .goes-on .ensures), refl, refl, refl)
+
+advance-requires : tie.Need-advance-requires Inv-loop μ-loop
+advance-requires c κs =
+    let k = c .before .before .before .before in
+    let a = k .before .before .before .before .before .before .before .before in
+    advancing _ _ _ _ _ _ _ _ _ _ _ _ _ _ _ (ran-going (c .before .before .before .loop-test .taken) (k .loop .inv .0)) (a .pre) (omega (arith, a))
+
+sub-left : tie.Need-sub-left Inv-loop μ-loop
+sub-left c =
+    let k = c .before .before .before .before .before .before .before .before .before in
+    left-some _ _ _ _ _ _ _ _ _ _ _ _ _ _ _ (ran-going (k .before .loop-test .taken) (k .before .before .loop .inv .0))
+
+goes-on-requires-2 : tie.Need-goes-on-requires-2 Inv-loop μ-loop
+goes-on-requires-2 c κs = search needs
+
+loop-less : tie.Need-loop-less Inv-loop μ-loop
+loop-less c =
+    let k = c .before .before .before .before .before .before .before .before .before in
+    omega (arith, left-some _ _ _ _ _ _ _ _ _ _ _ _ _ _ _ (ran-going (k .before .before .loop-test .taken) (k .before .before .before .loop .inv .0)))
+
+loop-again : tie.Need-loop-again Inv-loop μ-loop
+loop-again c =
+    let k = c .before .before .before .before .before .before .before in
+    let i = k .before .before .before .before .before .loop .inv in (
+      ran-more _ _ _ _ _ _ _ _ _ _ _ _ _ _ _ (ran-going (k .before .before .before .before .loop-test .taken) (i .0)) _ _ _ _ _ (k .advance .ensures) (c .goes-on2 .ensures),
+      search needs,
+      search needs,
+      search needs,
+    )
+
+same-length : tie.Need-same-length Inv-loop μ-loop
+same-length c = c .before .loop .inv .1
+
+same-length-2 : tie.Need-same-length-2 Inv-loop μ-loop
+same-length-2 c = c .before .loop .inv .2
+
+same-length-3 : tie.Need-same-length-3 Inv-loop μ-loop
+same-length-3 c = c .before .loop .inv .3
+
+returns : tie.Need-returns Inv-loop μ-loop
+returns c = ran-all _ _ _ _ _ _ _ _ _ _ _ _ _ _ _ (ran-stopped (c .loop-test .left) (c .before .loop .inv .0))
+
+pub run-spec : {M : Type 1} → statement M
+run-spec =
+    tie.close
+    (tie.spec
+    Inv-loop
+    μ-loop
+    goes-on-requires
+    loop-holds
+    advance-requires
+    sub-left
+    goes-on-requires-2
+    loop-less
+    loop-again
+    same-length
+    same-length-2
+    same-length-3
+    returns)

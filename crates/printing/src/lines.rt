@@ -1,0 +1,82 @@
+// The lines of a search's turns and of its route, put into a lent buffer from an offset on as far as there is room.
+ghost use Prim.Native.Nat.{min};
+ghost use mathlib.Core.Path.{_≡_};
+ghost use lib.ListN.{take};
+ghost use Rattle.text.specs.Laid.{Put, Counted};
+ghost use Rattle.text.specs.Text.{ascii, field, turnLine, loggedLine, turnLines, vertices, routeLine};
+use crate::buffer;
+
+// A turn: its number, its heuristic (table) and the vertex expanded.
+fn put_turn_line(out: &mut [u8], at: usize, number: u64, heuristic: u64, vertex: u64) -> usize
+    requires { ⌜ Counted at (turnLine number heuristic vertex) ⌝ }
+    ensures { λ r. ⌜ Put at (turnLine number heuristic vertex) (now (out .entry)) r (now (out .exit)) ⌝ }
+{
+    let turn = buffer::put_field(out, at, b"turn ", number);
+    let table = buffer::put_field(out, turn, b" table ", heuristic);
+    let place = buffer::put_field(out, table, b" place ", vertex);
+    buffer::put_byte(out, place, b'\n')
+}
+
+// The turns that a log shows: its first so many words, or all that there are.
+pub fn put_turn_lines(out: &mut [u8], at: usize, log: &[u32], count: usize) -> usize
+    requires { ⌜ Counted at (turnLines (take count (now log))) ⌝ }
+    ensures { λ r. ⌜ Put at (turnLines (take count (now (log .entry)))) (now (out .entry)) r (now (out .exit)) ⌝ }
+{
+    let shown = least(count, log.len());
+    let mut next = at;
+    let mut i = 0;
+    while i < shown {
+        next = put_logged_line(out, next, 1 + i, log[i]);
+        i += 1;
+    }
+    next
+}
+
+// The turn that a log word shows.
+fn put_logged_line(out: &mut [u8], at: usize, number: usize, word: u32) -> usize
+    requires { ⌜ Counted at (loggedLine number word) ⌝ }
+    ensures { λ r. ⌜ Put at (loggedLine number word) (now (out .entry)) r (now (out .exit)) ⌝ }
+{
+    let shown = word as u64;
+    put_turn_line(out, at, number as u64, shown / 65536, shown % 65536)
+}
+
+// A route (its vertices): the first so many of its slice, or all that there are.
+pub fn put_route_line(out: &mut [u8], at: usize, route: &[u32], count: usize) -> usize
+    requires { ⌜ Counted at (routeLine (take count (now route))) ⌝ }
+    ensures { λ r. ⌜ Put at (routeLine (take count (now (route .entry)))) (now (out .entry)) r (now (out .exit)) ⌝ }
+{
+    let word = buffer::put_word(out, at, b"route");
+    let end = put_vertices(out, word, route, count);
+    buffer::put_byte(out, end, b'\n')
+}
+
+// The vertices of a route, each after a space.
+fn put_vertices(out: &mut [u8], at: usize, route: &[u32], count: usize) -> usize
+    requires { ⌜ Counted at (vertices (take count (now route))) ⌝ }
+    ensures { λ r. ⌜ Put at (vertices (take count (now (route .entry)))) (now (out .entry)) r (now (out .exit)) ⌝ }
+{
+    let shown = least(count, route.len());
+    let mut next = at;
+    let mut i = 0;
+    while i < shown {
+        next = put_vertex(out, next, route[i]);
+        i += 1;
+    }
+    next
+}
+
+// One vertex after a space.
+fn put_vertex(out: &mut [u8], at: usize, vertex: u32) -> usize
+    requires { ⌜ Counted at (field (ascii " ") vertex) ⌝ }
+    ensures { λ r. ⌜ Put at (field (ascii " ") vertex) (now (out .entry)) r (now (out .exit)) ⌝ }
+{
+    buffer::put_field(out, at, b" ", vertex as u64)
+}
+
+// The lesser of two numbers.
+fn least(a: usize, b: usize) -> usize
+    ensures { λ r. ⌜ r ≡ min a b ⌝ }
+{
+    if a < b { a } else { b }
+}

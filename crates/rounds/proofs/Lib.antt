@@ -1,4 +1,0 @@
-pub mod Jobs
-pub mod Asked
-pub mod Ending
-pub mod Settling

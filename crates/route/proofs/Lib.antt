@@ -1,0 +1,5 @@
+pub mod Found
+pub mod Traces
+pub mod Laid
+pub mod Ended
+pub mod Counted

@@ -1,0 +1,4 @@
+pub mod Trace
+pub mod Costs
+pub mod Backs
+pub mod Kept

@@ -1,2 +1,0 @@
-pub mod Beginning
-pub mod Finishing

@@ -1,0 +1,44 @@
+-- `expand` meets its contract. Assumes nothing.
+use Rattle.turn.proofs.Expanding.{fits-marked, marked-ready, expanded}
+use borrow.Author.Needs.{needs}
+use Rattle.turn.proofs.expansion.expand.Statement.{statement}
+use Rattle.turn.proofs.expansion.expand.Tie as tie
+use Rattle.turn.proofs.expansion.expand.Reads as reads
+use Rattle.turn.proofs.expansion.expand.Lts as lts
+use Rattle.turn.proofs.expansion.relax_all.Reads as relax-all-reads
+use Rattle.turn.proofs.vertices.marked.Reads as marked-reads
+use Rattle.workspace.proofs.vertex_words.load.Reads as load-reads
+use Rattle.workspace.proofs.vertex_words.store.Reads as store-reads
+
+load-requires : tie.Need-load-requires
+load-requires c κs = search needs
+
+marked-requires : tie.Need-marked-requires
+marked-requires c κs = search needs
+
+store-requires : tie.Need-store-requires
+store-requires c κs =
+    let s = c .before .before .before .before .before in
+    (s .pre .0, s .pre .1, rw (c .marked .ensures) (fits-marked _ _ (c .before .before .load .ensures .1)))
+
+relax-all-requires : tie.Need-relax-all-requires
+relax-all-requires c κs =
+    let s = c .before .before .before .before .before .before .before .before .before in
+    let f = rw (c .before .before .before .before .marked .ensures, c .before .before .before .before .before .before .load .ensures .0) at (c .before .before .before .store .ensures) in
+    (marked-ready (s .args .z) (s .args .work .now) _ (s .args .i) (s .args .s) (s .pre .0) f, s .pre .1, c .before .before .before .before .before .before .load .ensures .1 .g)
+
+same-length : tie.Need-same-length
+same-length c = search needs
+
+returns : tie.Need-returns
+returns c =
+    let l = c .before .before .before .before .before .before .before .before .before in
+    let s = l .before .before .before in
+    let f = rw (c .before .before .before .before .before .before .before .marked .ensures, l .load .ensures .0) at (c .before .before .before .before .before .before .store .ensures) in
+    expanded (s .args .z) (s .args .work .now) _ (s .args .i) (s .args .s) (s .pre .0) f _
+    (rw (l .load .ensures .0) at (c .before .before .relax-all .ensures))
+
+pub expand-spec : {M : Type 1} → statement M
+expand-spec =
+    tie.close
+    (tie.spec load-requires marked-requires store-requires relax-all-requires same-length returns)

@@ -1,0 +1,57 @@
+-- `consider` meets its contract. Assumes nothing.
+use mathlib.Core.Path.{sym, _∙_}
+use Rattle.turn.proofs.Scanning.{offered-taken, offered-left}
+use borrow.Author.Needs.{needs}
+use Rattle.turn.proofs.scan.consider.Statement.{statement}
+use Rattle.turn.proofs.scan.consider.Tie as tie
+use Rattle.turn.proofs.scan.consider.Reads as reads
+use Rattle.turn.proofs.scan.consider.Lts as lts
+use Rattle.turn.proofs.vertices.key.Reads as key-reads
+use Rattle.turn.proofs.vertices.offered.Reads as offered-reads
+use Rattle.turn.proofs.scan.Lead.better.Reads as better-reads
+use Rattle.workspace.proofs.vertex_words.load.Reads as load-reads
+
+mul-h : tie.Need-mul-h
+mul-h c = search needs
+
+shared-slice-read-h : tie.Need-shared-slice-read-h
+shared-slice-read-h c = search needs
+
+load-requires : tie.Need-load-requires
+load-requires c κs = search needs
+
+offered-requires : tie.Need-offered-requires
+offered-requires c κs = search needs
+
+key-requires : tie.Need-key-requires
+key-requires c κs = search needs
+
+better-requires : tie.Need-better-requires
+better-requires c κs = search needs
+
+returns : tie.Need-returns
+returns c =
+    let s = c .before .before .before .before .before .before .before .before in
+    let x = c .before .before .before .before .load .ensures .0 in
+    let o = sym (rw x at (c .before .before .before .offered .ensures)) ∙ c .before .before .if1 .taken in
+    let k = rw x at (c .before .key .ensures .0) in
+    offered-taken _ _ _ _ _ (s .pre .4) _ o (rw k at (c .before .key .ensures .1)) (s .pre .1) (rw k at (c .better .ensures))
+
+returns-2 : tie.Need-returns-2
+returns-2 c =
+    let s = c .before .before .before .before .before .before in
+    let o = sym (rw (c .before .before .load .ensures .0) at (c .before .offered .ensures)) ∙ c .if1 .left in
+    offered-left _ _ _ _ _ (s .pre .4) o
+
+pub consider-spec : {M : Type 1} → statement M
+consider-spec =
+    tie.close
+    (tie.spec
+    mul-h
+    shared-slice-read-h
+    load-requires
+    offered-requires
+    key-requires
+    better-requires
+    returns
+    returns-2)

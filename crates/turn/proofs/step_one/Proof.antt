@@ -1,0 +1,28 @@
+-- `step_one` meets its contract. Assumes nothing.
+use Rattle.turn.proofs.Due.{due-within}
+use borrow.Author.Needs.{needs}
+use Rattle.turn.proofs.step_one.Statement.{statement}
+use Rattle.turn.proofs.step_one.Tie as tie
+use Rattle.turn.proofs.step_one.Reads as reads
+use Rattle.turn.proofs.step_one.Lts as lts
+use Rattle.turn.proofs.scan.least.Reads as least-reads
+use Rattle.turn.proofs.rules.step_one.Reads as step-one-reads
+use Rattle.workspace.proofs.vertex_words.load.Reads as load-reads
+
+load-requires : tie.Need-load-requires
+load-requires c κs = search needs
+
+least-requires : tie.Need-least-requires
+least-requires c κs = search needs
+
+step-one-requires : tie.Need-step-one-requires
+step-one-requires c κs = search needs
+
+returns : tie.Need-returns
+returns c = (
+  rw (c .step-one .ensures, c .before .least .ensures .0, c .before .before .load .ensures .0),
+  rw (c .step-one .ensures) (due-within _ _ _ _ (c .before .least .ensures .1)),
+)
+
+pub step-one-spec : {M : Type 1} → statement M
+step-one-spec = tie.close (tie.spec load-requires least-requires step-one-requires returns)

@@ -1,0 +1,69 @@
+// A vertex by value: its key, whether a heuristic is offered it, and what a turn makes of it.
+ghost use mathlib.Core.Path.{_≡_};
+ghost use Prim.Native.Nat.{_≤_};
+ghost use Rattle.search.specs.Turn.{key, offered, marked, lowered};
+ghost use Rattle.search.specs.Bounds.{maxFactor, maxG, maxKey};
+use search::Vertex;
+
+// Its key, where h is the heuristic's number for it.
+pub fn key(x: Vertex, w1: u32, h: u32) -> u64
+    requires { ⌜ (w1 ≤ maxFactor) × (x .g ≤ maxG) ⌝ }
+    ensures { λ r. ⌜ (r ≡ key w1 h x) × (r ≤ maxKey) ⌝ }
+{
+    let g = x.g;
+    100 * g + (w1 as u64) * (h as u64)
+}
+
+// Whether heuristic i, whose number for it is h, may expand it.
+pub fn offered(x: Vertex, i: u32, h: u32) -> bool
+    ensures { λ r. ⌜ r ≡ offered i h x ⌝ }
+{
+    if x.opened {
+        if i == 0 {
+            return true;
+        }
+        return !x.inad;
+    }
+    false
+}
+
+// It, expanded for heuristic i.
+pub fn marked(x: Vertex, i: u32) -> Vertex
+    ensures { λ r. ⌜ r ≡ marked i x ⌝ }
+{
+    if i == 0 {
+        return Vertex {
+            g: x.g,
+            v: x.g,
+            pred: x.pred,
+            inad: x.inad,
+            anchor: true,
+            opened: false,
+            incons: x.incons,
+        };
+    }
+    Vertex {
+        g: x.g,
+        v: x.g,
+        pred: x.pred,
+        inad: true,
+        anchor: x.anchor,
+        opened: false,
+        incons: x.incons,
+    }
+}
+
+// It, at the lower cost c, by an edge of s.
+pub fn lowered(x: Vertex, c: u64, s: u32) -> Vertex
+    ensures { λ r. ⌜ r ≡ lowered c s x ⌝ }
+{
+    Vertex {
+        g: c,
+        v: x.v,
+        pred: s,
+        inad: x.inad,
+        anchor: x.anchor,
+        opened: !x.anchor,
+        incons: x.anchor,
+    }
+}

@@ -1,0 +1,68 @@
+-- `edge` meets its contract. Assumes nothing.
+use native.Mathlib.Omega.{arith}
+use Rattle.workspace.specs.Layout.{base, edgeAt}
+use borrow.Author.Needs.{needs}
+use Rattle.workspace.proofs.edge_words.edge.Statement.{statement}
+use Rattle.workspace.proofs.edge_words.edge.Tie as tie
+use Rattle.workspace.proofs.edge_words.edge.Reads as reads
+use Rattle.workspace.proofs.edge_words.edge.Lts as lts
+
+cast-h : tie.Need-cast-h
+cast-h c = search needs
+
+add-h : tie.Need-add-h
+add-h c = search needs
+
+add-h-2 : tie.Need-add-h-2
+add-h-2 c = search needs
+
+cast-c : tie.Need-cast-c
+cast-c c = search needs
+
+add-c : tie.Need-add-c
+add-c c = search needs
+
+cast-c-2 : tie.Need-cast-c-2
+cast-c-2 c = search needs
+
+add-c-2 : tie.Need-add-c-2
+add-c-2 c = search needs
+
+add-c-3 : tie.Need-add-c-3
+add-c-3 c = search needs
+
+mul-head : tie.Need-mul-head
+mul-head c = search needs
+
+shared-slice-read-head : tie.Need-shared-slice-read-head
+unfolding base
+shared-slice-read-head c = omega arith
+
+mul-cost : tie.Need-mul-cost
+mul-cost c = search needs
+
+shared-slice-read-cost : tie.Need-shared-slice-read-cost
+unfolding base
+shared-slice-read-cost c = omega arith
+
+returns : tie.Need-returns
+unfolding edgeAt
+returns c = search needs
+
+pub edge-spec : {M : Type 1} → statement M
+edge-spec =
+    tie.close
+    (tie.spec
+    cast-h
+    add-h
+    add-h-2
+    cast-c
+    add-c
+    cast-c-2
+    add-c-2
+    add-c-3
+    mul-head
+    shared-slice-read-head
+    mul-cost
+    shared-slice-read-cost
+    returns)

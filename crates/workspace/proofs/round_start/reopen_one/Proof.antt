@@ -1,0 +1,29 @@
+-- `reopen_one` meets its contract. Assumes nothing.
+use Rattle.workspace.proofs.RoundStart.{fits-reopened}
+use borrow.Author.Needs.{needs}
+use Rattle.workspace.proofs.round_start.reopen_one.Statement.{statement}
+use Rattle.workspace.proofs.round_start.reopen_one.Tie as tie
+use Rattle.workspace.proofs.round_start.reopen_one.Reads as reads
+use Rattle.workspace.proofs.round_start.reopen_one.Lts as lts
+use Rattle.workspace.proofs.round_start.reopened.Reads as reopened-reads
+use Rattle.workspace.proofs.vertex_words.load.Reads as load-reads
+use Rattle.workspace.proofs.vertex_words.store.Reads as store-reads
+
+load-requires : tie.Need-load-requires
+load-requires c κs = search needs
+
+reopened-requires : tie.Need-reopened-requires
+reopened-requires c κs = search needs
+
+store-requires : tie.Need-store-requires
+store-requires c κs = (c .before .before .before .before .before .pre .0, c .before .before .before .before .before .pre .1, rw (c .reopened .ensures) (fits-reopened _ (c .before .before .load .ensures .1)))
+
+same-length : tie.Need-same-length
+same-length c = search needs
+
+returns : tie.Need-returns
+returns c = rw (c .before .before .before .reopened .ensures, c .before .before .before .before .before .load .ensures .0) at (c .before .before .store .ensures)
+
+pub reopen-one-spec : {M : Type 1} → statement M
+reopen-one-spec =
+    tie.close (tie.spec load-requires reopened-requires store-requires same-length returns)

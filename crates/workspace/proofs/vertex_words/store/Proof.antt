@@ -1,0 +1,23 @@
+-- `store` meets its contract. Assumes nothing.
+use mathlib.Core.Path.{_∙_}
+use Rattle.workspace.proofs.Written.{stored}
+use borrow.Author.Needs.{needs}
+use Rattle.workspace.proofs.vertex_words.store.Statement.{statement}
+use Rattle.workspace.proofs.vertex_words.store.Tie as tie
+use Rattle.workspace.proofs.vertex_words.store.Reads as reads
+use Rattle.workspace.proofs.vertex_words.store.Lts as lts
+use Rattle.workspace.proofs.words.put.Reads as put-reads
+
+put-requires : tie.Need-put-requires
+put-requires c κs = search needs
+
+same-length : tie.Need-same-length
+same-length c = search needs
+
+returns : tie.Need-returns
+returns c =
+    let s = c .before .before .before .before .before in
+    c .before .before .put .ensures ∙ stored (s .args .z) (s .args .work .now) (s .args .p) (s .args .x) (s .pre .0) (s .pre .1)
+
+pub store-spec : {M : Type 1} → statement M
+store-spec = tie.close (tie.spec put-requires same-length returns)

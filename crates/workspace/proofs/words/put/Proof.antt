@@ -1,0 +1,118 @@
+-- `put` meets its contract. Assumes nothing.
+use lib.ListN.{length-set}
+use native.Mathlib.Omega.{arith}
+use Rattle.search.specs.Outcome.{markWord}
+use Rattle.workspace.specs.Layout.{withVertex}
+use borrow.Author.Needs.{needs}
+use Rattle.workspace.proofs.words.put.Statement.{statement}
+use Rattle.workspace.proofs.words.put.Tie as tie
+use Rattle.workspace.proofs.words.put.Reads as reads
+use Rattle.workspace.proofs.words.put.Lts as lts
+use Rattle.workspace.proofs.words.base.Reads as base-reads
+use Rattle.workspace.proofs.words.mark.Reads as mark-reads
+
+base-requires : tie.Need-base-requires
+base-requires c κs = search needs
+
+mul-o : tie.Need-mul-o
+mul-o c = search needs
+
+add-o : tie.Need-add-o
+add-o c = search needs
+
+mark-requires : tie.Need-mark-requires
+mark-requires c κs = search needs
+
+mark-requires-2 : tie.Need-mark-requires-2
+mark-requires-2 c κs = search needs
+
+add-marks : tie.Need-add-marks
+add-marks c = search needs
+
+mark-requires-3 : tie.Need-mark-requires-3
+mark-requires-3 c κs = search needs
+
+add-marks-2 : tie.Need-add-marks-2
+add-marks-2 c = search needs
+
+mark-requires-4 : tie.Need-mark-requires-4
+mark-requires-4 c κs = search needs
+
+add-marks-3 : tie.Need-add-marks-3
+add-marks-3 c = search needs
+
+cast-work : tie.Need-cast-work
+cast-work c = search needs
+
+mul-work : tie.Need-mul-work
+mul-work c = search needs
+
+slice-write-work : tie.Need-slice-write-work
+slice-write-work c = search needs
+
+cast-work-2 : tie.Need-cast-work-2
+cast-work-2 c = search needs
+
+add-work : tie.Need-add-work
+add-work c = search needs
+
+mul-work-2 : tie.Need-mul-work-2
+mul-work-2 c = search needs
+
+slice-write-work-2 : tie.Need-slice-write-work-2
+slice-write-work-2 c = simp length-set (omega arith)
+
+add-work-2 : tie.Need-add-work-2
+add-work-2 c = search needs
+
+mul-work-3 : tie.Need-mul-work-3
+mul-work-3 c = search needs
+
+slice-write-work-3 : tie.Need-slice-write-work-3
+slice-write-work-3 c = simp length-set (omega arith)
+
+add-work-3 : tie.Need-add-work-3
+add-work-3 c = search needs
+
+mul-work-4 : tie.Need-mul-work-4
+mul-work-4 c = search needs
+
+slice-write-work-4 : tie.Need-slice-write-work-4
+slice-write-work-4 c = simp length-set (omega arith)
+
+same-length : tie.Need-same-length
+same-length c = search needs
+
+returns : tie.Need-returns
+unfolding withVertex markWord
+returns c = rw (c .before .before .before .mark .ensures .0, c .before .before .mark2 .ensures .0, c .before .mark3 .ensures .0, c .mark4 .ensures .0, c .before .before .before .before .base .ensures)
+
+pub put-spec : {M : Type 1} → statement M
+put-spec =
+    tie.close
+    (tie.spec
+    base-requires
+    mul-o
+    add-o
+    mark-requires
+    mark-requires-2
+    add-marks
+    mark-requires-3
+    add-marks-2
+    mark-requires-4
+    add-marks-3
+    cast-work
+    mul-work
+    slice-write-work
+    cast-work-2
+    add-work
+    mul-work-2
+    slice-write-work-2
+    add-work-2
+    mul-work-3
+    slice-write-work-3
+    add-work-3
+    mul-work-4
+    slice-write-work-4
+    same-length
+    returns)

@@ -1,0 +1,38 @@
+// Vertices loaded from work memory and stored in it.
+ghost use mathlib.Core.Path.{_≡_};
+ghost use Prim.Native.Nat.{_+_, _*_, _<_};
+ghost use lib.ListN.{set};
+ghost use Rattle.search.specs.Job.{at};
+ghost use Rattle.workspace.specs.Layout.{base, Room, verticesOf, written, Fits, Ready};
+use crate::Size;
+use crate::words;
+use search::Vertex;
+
+// Vertex p.
+pub fn load(work: &[u32], z: Size, p: u32) -> Vertex
+    requires { ⌜ Room z (now work) × (p < z .vertices) ⌝ }
+    ensures { λ r. ⌜ (r ≡ at (verticesOf z (now (work .entry))) p) × Fits r ⌝ }
+{
+    let o = words::base(z) + 4 * (p as usize);
+    let g = work[o];
+    let v = work[o + 1];
+    let pred = work[o + 2];
+    let marks = work[o + 3];
+    Vertex {
+        g: g as u64,
+        v: v as u64,
+        pred,
+        inad: words::has_mark(1, marks),
+        anchor: words::has_mark(2, marks),
+        opened: words::has_mark(4, marks),
+        incons: words::has_mark(8, marks),
+    }
+}
+
+// Vertex p becomes x.
+pub fn store(work: &mut [u32], z: Size, p: u32, x: Vertex)
+    requires { ⌜ Ready z (now work) × (p < z .vertices) × Fits x ⌝ }
+    ensures { λ _. ⌜ now (work .exit) ≡ written z (set (verticesOf z (now (work .entry))) p x) (now (work .entry)) ⌝ }
+{
+    words::put(work, z, p, x);
+}
