@@ -10,7 +10,8 @@ use lib.ListN.{length}
 use Rattle.graph.specs.declared.Edge.{Edge}
 use Rattle.graph.specs.declared.Cursor.{Cursor}
 use Rattle.graph.specs.declared.EdgeRead.{EdgeRead}
-use Rattle.graph.specs.declared.EdgeRead.the-variants.{Next, Fault}
+use Rattle.graph.specs.declared.EdgeRead.the-variants.{Next}
+use Rattle.graph.specs.declared.EdgeRead.the-variants as edgeRead
 use Rattle.graph.specs.declared.PlanRead.the-variants.{Sizes}
 use Rattle.graph.specs.Plan.{firstAt, nextEdge, edgesFrom, sizes}
 use Rattle.graph.specs.Lists.{fault, edgesIn}
@@ -33,7 +34,7 @@ read-within v s c e c′ h = passes-within v (c .tail) (c .least) e (edge-passes
 -- ---- one edge tried
 
 module _ (h : List ℕ) (r : EdgeRead) where
-  pub tried-fault : (n p : ℕ) → r ≡ Fault n p → Breaks ≡ tried h r
+  pub tried-fault : (n p : ℕ) → r ≡ edgeRead.Refused n p → Breaks ≡ tried h r
   unfolding tried
   tried-fault n p q = rw q
 

@@ -6,7 +6,7 @@ use lib.ListN.{getD}
 use lib.Dec.{ltb}
 use Rattle.graph.specs.declared.Edge.{Edge}
 use Rattle.graph.specs.declared.EdgeRead.{EdgeRead}
-use Rattle.graph.specs.declared.EdgeRead.the-variants.{Next, Fault}
+use Rattle.graph.specs.declared.EdgeRead.the-variants.{Next, Refused}
 use Rattle.admission.specs.declared.consistency.Tried.{Tried}
 use Rattle.admission.specs.declared.consistency.Tried.the-variants.{Holds, Breaks}
 
@@ -16,4 +16,4 @@ breaks h e = ltb (e .cost + getD h (e .head) 0) (getD h (e .tail) 0)
 
 unfoldable pub tried : List ℕ → EdgeRead → Tried
 tried h (Next e c) = cond (breaks h e) Breaks (Holds c)
-tried h (Fault n p) = Breaks
+tried h (Refused n p) = Breaks

@@ -40,7 +40,7 @@ fn try_edge(bytes: &[u8], vertices: u32, anchor: &[u32], cursor: Cursor) -> Trie
     requires { ⌜ length (now anchor) ≡ vertices ⌝ }
     ensures { λ r. ⌜ r ≡ steps.tried (now (anchor .entry)) (nextEdge vertices (now (bytes .entry)) cursor) ⌝ }
 {
-    let EdgeRead::Next(edge, next) = cursor::step(cursor, bytes, vertices) else {
+    let EdgeRead::Next(edge, next) = cursor::next_edge(cursor, bytes, vertices) else {
         return Tried::Breaks;
     };
     if breaks(edge, anchor) {

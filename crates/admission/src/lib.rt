@@ -29,7 +29,7 @@ fn plan_verdict(read: PlanRead) -> Verdict
 }
 
 // The first fault of a planner call, or none: plan faults 1 to 7, then the rows 8 to 13.
-pub fn fault(
+pub fn decide(
     bytes: &[u8],
     start: u32,
     goal: u32,

@@ -14,7 +14,7 @@ use Rattle.job.specs.declared.Front.{Front}
 use Rattle.job.specs.declared.JobRead.the-variants.{Accepted}
 use Rattle.job.specs.Reading.{jobRead, planOf, tableCount}
 use Rattle.job.specs.Numbers.{values}
-use Rattle.job.specs.Asked.{scheduleOf, tablesOf, anchorOf, sheetsOf, callWith, callOf}
+use Rattle.job.specs.Asked.{scheduleOf, tablesOf, anchorOf, sheetsOf, callWith, callAsked}
 use Rattle.job.specs.Printed.{printed, callText}
 use Rattle.job.proofs.Accepted.{Ready, accepted-ready}
 use Rattle.job.specs.Texts.{Texts}
@@ -41,45 +41,45 @@ stored-prefix old new vs n size room stored =
 -- ---- an accepted job
 
 module _ (s : List ℕ) (f : Front) (v : ℕ) (h : jobRead s ≡ Accepted f v) where
-  pub factors-few : 2 * f .rounds ≤ 32
+  pub factors-few : 2 * f .«round_count» ≤ 32
   factors-few = omega (arith, accepted-ready s f v h .fits .rounds)
 
-  pub numbers-few : (1 + f .guides) * v ≤ 2304
+  pub numbers-few : (1 + f .«guide_count») * v ≤ 2304
   numbers-few =
       let r = accepted-ready s f v h in
-      omega (arith, mul-le-mul-left (1 + f .guides) (r .vertices), r .fits .guides)
+      omega (arith, mul-le-mul-left (1 + f .«guide_count») (r .vertices), r .fits .guides)
 
-  pub numbers-all : length (tablesOf s f v) ≡ (1 + f .guides) * v
+  pub numbers-all : length (tablesOf s f v) ≡ (1 + f .«guide_count») * v
   unfolding tableCount
   numbers-all = accepted-ready s f v h .tables
 
   -- its factors and its tables, stored at the fronts of the arrays for them
   pub factors-stored :
-      (new : List ℕ) → new ≡ sets (replicate 32 0) 0 (values (2 * f .rounds) s (f .factors)) →
-      Prefix (2 * f .rounds) new (scheduleOf s f)
+      (new : List ℕ) → new ≡ sets (replicate 32 0) 0 (values (2 * f .«round_count») s (f .«factors_at»)) →
+      Prefix (2 * f .«round_count») new (scheduleOf s f)
   unfolding scheduleOf
   factors-stored new stored =
       stored-prefix (replicate 32 0) new _ _ (accepted-ready s f v h .fits .schedule) factors-few stored
 
   pub tables-stored :
-      (new : List ℕ) → new ≡ sets (replicate 2304 0) 0 (values ((1 + f .guides) * v) s (f .tables)) →
-      Prefix ((1 + f .guides) * v) new (tablesOf s f v)
+      (new : List ℕ) → new ≡ sets (replicate 2304 0) 0 (values ((1 + f .«guide_count») * v) s (f .«tables_at»)) →
+      Prefix ((1 + f .«guide_count») * v) new (tablesOf s f v)
   unfolding tablesOf tableCount
   tables-stored new stored = stored-prefix (replicate 2304 0) new _ _ numbers-all (omega (arith, numbers-few, length-replicate {A = ℕ} 2304 0)) stored
 
 module _ (s : List ℕ) (f : Front) (v : ℕ) (schedule tables : List ℕ) (h : Stored s f v schedule tables) where
   pub first-table : v ≤ length tables
   first-table =
-      omega (arith, numbers-all s f v (h .accepted), ap length (h .tables), mul-le-mul-left v (one-or-more (f .guides)))
+      omega (arith, numbers-all s f v (h .accepted), ap length (h .tables), mul-le-mul-left v (one-or-more (f .«guide_count»)))
     where
       one-or-more : (g : ℕ) → 1 ≤ 1 + g
       one-or-more g = omega arith
 
   -- the call over what was stored is the job's
   pub call-is :
-      callWith (take (f .end - f .plan) (drop (f .plan) s)) f (take v tables) (take (length tables - v) (drop v tables)) schedule
-      ≡ callOf s f v
-  unfolding callOf planOf anchorOf sheetsOf
+      callWith (take (f .«plan_end» - f .«plan_at») (drop (f .«plan_at») s)) f (take v tables) (take (length tables - v) (drop v tables)) schedule
+      ≡ callAsked s f v
+  unfolding callAsked planOf anchorOf sheetsOf
   call-is =
       let rest : take (length tables - v) (drop v tables) ≡ drop v tables
       = take-all (length tables - v) (drop v tables) (omega (arith, length-drop v tables)) in

@@ -1,5 +1,5 @@
 // Job bytes to printed text, in a lent buffer.
-mod asked;
+mod planning;
 
 ghost use Rattle.job.specs.Printed.{benchText};
 ghost use Rattle.job.specs.Texts.{Texts};
@@ -11,7 +11,7 @@ pub fn bench_text(job: &[u8], out: &mut [u8]) -> usize
     ensures { λ r. ⌜ Texts (benchText (now (job .entry))) (now (out .entry)) r (now (out .exit)) ⌝ }
 {
     match job_reader::read(job) {
-        JobRead::Accepted(front, vertices) => asked::put_job(out, job, front, vertices),
+        JobRead::Accepted(front, vertices) => planning::plan_job(out, job, front, vertices),
         JobRead::Refused(n, p) => printing::put_refused(out, n, p),
     }
 }

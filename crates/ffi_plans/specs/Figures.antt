@@ -13,4 +13,4 @@ planFigures (read.the-variants.Refused n p) = figures n p 0 0
 -- the count of bytes, or the refusal
 abbrev pub countFigures : written.PlanWritten → List ℕ
 countFigures (written.the-variants.Count n) = figures 0 0 n 0
-countFigures (written.the-variants.Rejected n p) = figures n p 0 0
+countFigures (written.the-variants.Refused n p) = figures n p 0 0

@@ -23,7 +23,7 @@ fn of_count(written: PlanWritten) -> [u64; 4]
 {
     match written {
         PlanWritten::Count(count) => [0, 0, count as u64, 0],
-        PlanWritten::Rejected(n, p) => [n as u64, p as u64, 0, 0],
+        PlanWritten::Refused(n, p) => [n as u64, p as u64, 0, 0],
     }
 }
 

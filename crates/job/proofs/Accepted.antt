@@ -17,12 +17,13 @@ use Rattle.job.specs.declared.Front.{Front}
 use Rattle.job.specs.declared.NumbersRead.{NumbersRead}
 use Rattle.job.specs.declared.NumbersRead.the-variants.{Past, Malformed}
 use Rattle.job.specs.declared.FrontRead.{FrontRead}
-use Rattle.job.specs.declared.FrontRead.the-variants.{Whole, Broken}
+use Rattle.job.specs.declared.FrontRead.the-variants.{Whole}
+use Rattle.job.specs.declared.FrontRead.the-variants as frontRead
 use Rattle.job.specs.declared.JobRead.{JobRead}
 use Rattle.job.specs.declared.JobRead.the-variants.{Accepted, Refused}
 use Rattle.job.specs.Numbers.{endOf, values}
-use Rattle.job.specs.Front.{maxRounds, maxGuides, rounds, ends, front}
-use Rattle.job.specs.Reading.{maxBytes, maxVertices, maxEdges, planOf, tableCount, afterTables, afterSizes, afterPlan, afterFront, jobRead}
+use Rattle.job.specs.Front.{maxJobRounds, maxJobGuides, rounds, ends, front}
+use Rattle.job.specs.Reading.{maxJobBytes, maxJobVertices, maxJobEdges, planOf, tableCount, afterTables, afterSizes, afterPlan, afterFront, jobRead}
 use Rattle.job.specs.Asked.{scheduleOf, tablesOf}
 use Rattle.job.proofs.Values.{length-values}
 use Rattle.job.proofs.Following.{whole-following, whole-past, whole-cond}
@@ -31,28 +32,28 @@ use Rattle.job.proofs.Following.{whole-following, whole-past, whole-con
 
 -- rounds and guides are few, and every factor is there
 pub record Rounds (s : List ℕ) (plan end : ℕ) (f : Front) : Type 0 where
-  pub at : f .plan ≡ plan
-  pub to : f .end ≡ end
-  pub rounds : f .rounds ≤ maxRounds
-  pub guides : f .guides ≤ maxGuides
-  pub schedule : length (scheduleOf s f) ≡ 2 * f .rounds
+  pub at : f .«plan_at» ≡ plan
+  pub to : f .«plan_end» ≡ end
+  pub rounds : f .«round_count» ≤ maxJobRounds
+  pub guides : f .«guide_count» ≤ maxJobGuides
+  pub schedule : length (scheduleOf s f) ≡ 2 * f .«round_count»
 
 module _ (s : List ℕ) (plan end : ℕ) (f : Front) where
   whole-as :
-      (start goal budget r at g tables next : ℕ) → ltb maxRounds r ≡ false → endOf (2 * r) s at ≡ Past next → ltb maxGuides g ≡ false →
-      Whole (record { plan = plan; end = end; start = start; goal = goal; budget = budget; rounds = r; factors = at; guides = g; tables = tables }) ≡ Whole f →
+      (start goal budget r at g tables next : ℕ) → ltb maxJobRounds r ≡ false → endOf (2 * r) s at ≡ Past next → ltb maxJobGuides g ≡ false →
+      Whole (record { «plan_at» = plan; «plan_end» = end; start = start; goal = goal; budget = budget; «round_count» = r; «factors_at» = at; «guide_count» = g; «tables_at» = tables }) ≡ Whole f →
       Rounds s plan end f
   unfolding scheduleOf
   whole-as start goal budget r at g tables next few all less h =
-      let e : record { plan = plan; end = end; start = start; goal = goal; budget = budget; rounds = r; factors = at; guides = g; tables = tables } ≡ f = cc in
-      let er : r ≡ f .rounds = ap (λ (x : Front). x .rounds) e in
-      let eg : g ≡ f .guides = ap (λ (x : Front). x .guides) e in
-      let ea : at ≡ f .factors = ap (λ (x : Front). x .factors) e in
+      let e : record { «plan_at» = plan; «plan_end» = end; start = start; goal = goal; budget = budget; «round_count» = r; «factors_at» = at; «guide_count» = g; «tables_at» = tables } ≡ f = cc in
+      let er : r ≡ f .«round_count» = ap (λ (x : Front). x .«round_count») e in
+      let eg : g ≡ f .«guide_count» = ap (λ (x : Front). x .«guide_count») e in
+      let ea : at ≡ f .«factors_at» = ap (λ (x : Front). x .«factors_at») e in
       record {
-        at = sym (ap (λ (x : Front). x .plan) e);
-        to = sym (ap (λ (x : Front). x .end) e);
-        rounds = omega (arith, ltb-false maxRounds r few);
-        guides = omega (arith, ltb-false maxGuides g less);
+        at = sym (ap (λ (x : Front). x .«plan_at») e);
+        to = sym (ap (λ (x : Front). x .«plan_end») e);
+        rounds = omega (arith, ltb-false maxJobRounds r few);
+        guides = omega (arith, ltb-false maxJobGuides g less);
         schedule = rw (sym er, sym ea) (length-values s next (2 * r) at all);
       }
 
@@ -60,10 +61,10 @@ module _ (s : List ℕ) (plan end : ℕ) (f : Front) where
   unfolding rounds
   rounds-whole start goal budget at h =
       whole-following f (read jobGroups s at) _ h
-      (λ r factors _ h₁. whole-cond f (ltb maxRounds r) _ h₁
+      (λ r factors _ h₁. whole-cond f (ltb maxJobRounds r) _ h₁
       (λ few h₂. whole-past f (endOf (2 * r) s factors) _ h₂
       (λ next all h₃. whole-following f (read jobGroups s next) _ h₃
-      (λ g tables _ h₄. whole-cond f (ltb maxGuides g) _ h₄
+      (λ g tables _ h₄. whole-cond f (ltb maxJobGuides g) _ h₄
       (λ less h₅. whole-as start goal budget r factors g tables next few all less h₅)))))
 
   ends-whole : ends s plan end ≡ Whole f → Rounds s plan end f
@@ -76,11 +77,11 @@ module _ (s : List ℕ) (plan end : ℕ) (f : Front) where
 
 -- the plan is a part of the job's bytes
 pub record Fits (s : List ℕ) (f : Front) : Type 0 where
-  pub plan : f .plan ≤ f .end
-  pub end : f .end ≤ length s
-  pub rounds : f .rounds ≤ maxRounds
-  pub guides : f .guides ≤ maxGuides
-  pub schedule : length (scheduleOf s f) ≡ 2 * f .rounds
+  pub plan : f .«plan_at» ≤ f .«plan_end»
+  pub end : f .«plan_end» ≤ length s
+  pub rounds : f .«round_count» ≤ maxJobRounds
+  pub guides : f .«guide_count» ≤ maxJobGuides
+  pub schedule : length (scheduleOf s f) ≡ 2 * f .«round_count»
 
 pub front-fits : (s : List ℕ) (f : Front) → front s ≡ Whole f → Fits s f
 unfolding front
@@ -104,8 +105,8 @@ pub record Ready (s : List ℕ) (f : Front) (v : ℕ) : Type 0 where
   pub fits : Fits s f
   pub edges : ℕ
   pub sizes : sizes (decode (planOf s f)) ≡ checked.Sizes v edges
-  pub vertices : v ≤ maxVertices
-  pub few : edges ≤ maxEdges
+  pub vertices : v ≤ maxJobVertices
+  pub few : edges ≤ maxJobEdges
   pub tables : length (tablesOf s f v) ≡ tableCount f v
 
 module _ (s : List ℕ) (f : Front) (v : ℕ) where
@@ -126,31 +127,31 @@ module _ (s : List ℕ) (f : Front) (v : ℕ) where
     module _ (whole : front s ≡ Whole g) where
       -- V and M are small
       sizes-by :
-          (w m : ℕ) (b : Bool) → sizes (decode (planOf s g)) ≡ checked.Sizes w m → (ltb maxVertices w || ltb maxEdges m) ≡ b →
-          cond b (Refused 14 0) (afterTables s g w (endOf (tableCount g w) s (g .tables))) ≡ Accepted f v → Ready s f v
+          (w m : ℕ) (b : Bool) → sizes (decode (planOf s g)) ≡ checked.Sizes w m → (ltb maxJobVertices w || ltb maxJobEdges m) ≡ b →
+          cond b (Refused 14 0) (afterTables s g w (endOf (tableCount g w) s (g .«tables_at»))) ≡ Accepted f v → Ready s f v
       unfolding tablesOf
       sizes-by w m true z o h = never 14 0 h
       sizes-by w m false z o h =
-          let e = tables-by w (endOf (tableCount g w) s (g .tables)) h in
+          let e = tables-by w (endOf (tableCount g w) s (g .«tables_at»)) h in
           rw (sym (e .0), sym (e .1))
           (record {
             fits = front-fits s g whole;
             edges = m;
             sizes = z;
-            vertices = ltb-false maxVertices w (or-left (ltb maxVertices w) (ltb maxEdges m) o);
-            few = ltb-false maxEdges m (or-right (ltb maxVertices w) (ltb maxEdges m) o);
-            tables = length-values s (e .2 .0) (tableCount g w) (g .tables) (e .2 .1);
+            vertices = ltb-false maxJobVertices w (or-left (ltb maxJobVertices w) (ltb maxJobEdges m) o);
+            few = ltb-false maxJobEdges m (or-right (ltb maxJobVertices w) (ltb maxJobEdges m) o);
+            tables = length-values s (e .2 .0) (tableCount g w) (g .«tables_at») (e .2 .1);
           })
 
       plan-by : (p : PlanRead) → sizes (decode (planOf s g)) ≡ p → afterPlan s g p ≡ Accepted f v → Ready s f v
       unfolding afterPlan afterSizes
-      plan-by (checked.Sizes w m) z h = sizes-by w m (ltb maxVertices w || ltb maxEdges m) z refl h
+      plan-by (checked.Sizes w m) z h = sizes-by w m (ltb maxJobVertices w || ltb maxJobEdges m) z refl h
       plan-by (checked.Refused n p) z h = never n p h
 
   front-by : (r : FrontRead) → front s ≡ r → afterFront s r ≡ Accepted f v → Ready s f v
   unfolding afterFront
   front-by (Whole g) e h = plan-by g e (sizes (decode (planOf s g))) refl h
-  front-by Broken e h = never 14 0 h
+  front-by frontRead.Refused e h = never 14 0 h
 
   size-by : (b : Bool) → cond b (Refused 14 0) (afterFront s (front s)) ≡ Accepted f v → Ready s f v
   size-by true h = never 14 0 h
@@ -158,4 +159,4 @@ module _ (s : List ℕ) (f : Front) (v : ℕ) where
 
   pub accepted-ready : jobRead s ≡ Accepted f v → Ready s f v
   unfolding jobRead
-  accepted-ready h = size-by (ltb maxBytes (length s)) h
+  accepted-ready h = size-by (ltb maxJobBytes (length s)) h

@@ -10,7 +10,8 @@ use Rattle.job.specs.declared.Front.{Front}
 use Rattle.job.specs.declared.NumbersRead.{NumbersRead}
 use Rattle.job.specs.declared.NumbersRead.the-variants.{Past, Malformed}
 use Rattle.job.specs.declared.FrontRead.{FrontRead}
-use Rattle.job.specs.declared.FrontRead.the-variants.{Whole, Broken}
+use Rattle.job.specs.declared.FrontRead.the-variants.{Whole}
+use Rattle.job.specs.declared.FrontRead.the-variants as frontRead
 use Rattle.job.specs.Front.{following, past}
 
 -- ---- for the code that reads on
@@ -20,7 +21,7 @@ module _ (rest : ℕ → ℕ → FrontRead) (r got : NumberRead) (e : got ≡ r)
   unfolding following
   follows x next t f h = h ∙ sym (ap (λ (q : NumberRead). following q rest) (sym e ∙ f))
 
-  pub follows-none : (p : ℕ) → got ≡ Refused p → Broken ≡ following r rest
+  pub follows-none : (p : ℕ) → got ≡ Refused p → frontRead.Refused ≡ following r rest
   unfolding following
   follows-none p f = sym (ap (λ (q : NumberRead). following q rest) (sym e ∙ f))
 
@@ -29,7 +30,7 @@ module _ (rest : ℕ → FrontRead) (r got : NumbersRead) (e : got ≡ r) where
   unfolding past
   passes next t f h = h ∙ sym (ap (λ (q : NumbersRead). past q rest) (sym e ∙ f))
 
-  pub passes-none : got ≡ Malformed → Broken ≡ past r rest
+  pub passes-none : got ≡ Malformed → frontRead.Refused ≡ past r rest
   unfolding past
   passes-none f = sym (ap (λ (q : NumbersRead). past q rest) (sym e ∙ f))
 
@@ -56,6 +57,6 @@ module _ {A : Type 0} (f : Front) where
   whole-past (Past next) rest h go = go next refl h
   whole-past Malformed rest h go = let z : _≡_ {A = ℕ} 0 1 = cc in absurd (omega arith)
 
-  pub whole-cond : (b : Bool) (y : FrontRead) → cond b Broken y ≡ Whole f → (b ≡ false → y ≡ Whole f → A) → A
+  pub whole-cond : (b : Bool) (y : FrontRead) → cond b frontRead.Refused y ≡ Whole f → (b ≡ false → y ≡ Whole f → A) → A
   whole-cond true y h go = let z : _≡_ {A = ℕ} 0 1 = cc in absurd (omega arith)
   whole-cond false y h go = go refl h

@@ -14,7 +14,7 @@ use Rattle.text.specs.Text.{loggedLine, turnLines, routeLine, endLine, noRouteL
 use Rattle.text.proofs.Laid.{put-length, then-put}
 use Rattle.text.proofs.Lengths.{length-each, length-turn-line, length-end-line, length-no-route-line, length-unfinished-line, length-refused-line, length-route-line}
 use Rattle.job.specs.Asked.{routeSize, logSize}
-use Rattle.job.specs.Texts.{maxText, Texts, Lent}
+use Rattle.job.specs.Texts.{maxText, Texts, BenchSized}
 
 -- every word is one of 32 bits
 abbrev pub Words : List ℕ → Type 0
@@ -69,7 +69,7 @@ module _ {old : List ℕ} {at : ℕ} {mid : List ℕ} {r : ℕ} {new : List ℕ}
 module _ {old : List ℕ} {at : ℕ} {mid : List ℕ} {end : ℕ} {near : List ℕ} {r : ℕ} {new : List ℕ} where
   -- the turn lines, the route line, and one line after them
   pub two-lines :
-      (n : ℕ) (log : List ℕ) (k : ℕ) (route line : List ℕ) → Words log → Words route → Lent route log → length line ≤ 112 →
+      (n : ℕ) (log : List ℕ) (k : ℕ) (route line : List ℕ) → Words log → Words route → BenchSized route log → length line ≤ 112 →
       Put 0 (turnLines (take n log)) old at mid → Put at (routeLine (take k route)) mid end near → Put end line near r new →
       Texts (turnLines (take n log) ++ (routeLine (take k route) ++ line)) old r new
   two-lines n log k route line words words′ lent few first second third =

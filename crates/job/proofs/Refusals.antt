@@ -19,8 +19,8 @@ use Rattle.search.specs.Call.{Call, inForce, row, first, endsRow, tablesRow, sc
 use Rattle.job.specs.declared.Front.{Front}
 use Rattle.job.specs.declared.JobRead.the-variants.{Accepted, Refused}
 use Rattle.job.specs.Front.{front}
-use Rattle.job.specs.Reading.{maxBytes, maxVertices, maxEdges, planOf, tableCount, afterPlan, afterFront, jobRead}
-use Rattle.job.specs.Asked.{tablesOf, anchorOf, sheetsOf, routeSize, workSize, zeros, callWith, callOf}
+use Rattle.job.specs.Reading.{maxJobBytes, maxJobVertices, maxJobEdges, planOf, tableCount, afterPlan, afterFront, jobRead}
+use Rattle.job.specs.Asked.{tablesOf, anchorOf, sheetsOf, routeSize, workSize, zeros, callWith, callAsked}
 use Rattle.job.specs.Refusals.{Own, ends, schedule, goal, edge, OwnRefusals, PlanRefusals}
 use Rattle.job.proofs.Accepted.{Ready, accepted-ready}
 
@@ -62,28 +62,28 @@ module _ (n p : ℕ) where
 -- ---- the rows that cannot hold
 
 module _ (s : List ℕ) (f : Front) (v : ℕ) (r : Ready s f v) where
-  sheets-all : length (tablesOf s f v) ≡ v + f .guides * v
+  sheets-all : length (tablesOf s f v) ≡ v + f .«guide_count» * v
   unfolding tableCount
   sheets-all = omega (arith, r .tables)
 
-  tables-clear : tablesRow (callOf s f v) v ≡ none
-  unfolding tablesRow callOf callWith anchorOf sheetsOf row
+  tables-clear : tablesRow (callAsked s f v) v ≡ none
+  unfolding tablesRow callAsked callWith anchorOf sheetsOf row
   tables-clear =
       simp (
-        le-ltb 8 (f .guides) (r .fits .guides),
+        le-ltb 8 (f .«guide_count») (r .fits .guides),
         eq-eqb (length (take v (tablesOf s f v))) v (length-take-le v (tablesOf s f v) (omega (arith, sheets-all))),
-        eq-eqb (length (drop v (tablesOf s f v))) (f .guides * v) (omega (arith, sheets-all, length-drop v (tablesOf s f v))),
+        eq-eqb (length (drop v (tablesOf s f v))) (f .«guide_count» * v) (omega (arith, sheets-all, length-drop v (tablesOf s f v))),
       )
 
-  memory-clear : (m : ℕ) → m ≤ maxEdges → memoryRow (callOf s f v) v m ≡ none
-  unfolding memoryRow callOf callWith zeros row
+  memory-clear : (m : ℕ) → m ≤ maxJobEdges → memoryRow (callAsked s f v) v m ≡ none
+  unfolding memoryRow callAsked callWith zeros row
   memory-clear m h =
       simp (
         le-ltb routeSize v (r .vertices),
         le-ltb workSize (5 * v + 1 + 2 * m) (omega (arith, r .vertices)),
       )
 
-  own-by : (n p : ℕ) (d : Decoded) → sizes d ≡ checked.Sizes v (r .edges) → faultIn (callOf s f v) d ≡ fault n p → Own n
+  own-by : (n p : ℕ) (d : Decoded) → sizes d ≡ checked.Sizes v (r .edges) → faultIn (callAsked s f v) d ≡ fault n p → Own n
   unfolding faultIn sizes endsRow scheduleRow goalRow
   own-by n p (refused m q) e h = let z : _≡_ {A = ℕ} 0 1 = cc in absurd (omega arith)
   own-by n p (accepted w es) e h =
@@ -97,7 +97,7 @@ module _ (s : List ℕ) (f : Front) (v : ℕ) (r : Ready s f v) where
       h
 
 pub own-refusals : OwnRefusals
-unfolding faultOf callOf callWith
+unfolding faultOf callAsked callWith
 own-refusals =
     record {
       own = λ s f v n p h q.
@@ -111,6 +111,6 @@ unfolding jobRead afterFront afterPlan
 plan-refusals =
     record {
       plan = λ s f n p l h q.
-          ap (λ (b : Bool). cond b (Refused 14 0) (afterFront s (front s))) (le-ltb maxBytes (length s) l) ∙ ap (afterFront s) h
+          ap (λ (b : Bool). cond b (Refused 14 0) (afterFront s (front s))) (le-ltb maxJobBytes (length s) l) ∙ ap (afterFront s) h
           ∙ ap (afterPlan s f) q;
     }

@@ -5,17 +5,17 @@ use lib.ListN.{take, drop, replicate}
 use Rattle.search.specs.Call.{Memory, Call}
 use Rattle.job.specs.declared.Front.{Front}
 use Rattle.job.specs.Numbers.{values}
-use Rattle.job.specs.Reading.{maxVertices, maxEdges, planOf, tableCount}
+use Rattle.job.specs.Reading.{maxJobVertices, maxJobEdges, planOf, tableCount}
 
 -- ---- what an accepted job holds, besides its plan
 
 -- W1, W2, W1, W2, ..
 unfoldable pub scheduleOf : List ℕ → Front → List ℕ
-scheduleOf s f = values (2 * f .rounds) s (f .factors)
+scheduleOf s f = values (2 * f .«round_count») s (f .«factors_at»)
 
 -- the tables one after another, v numbers each
 unfoldable pub tablesOf : List ℕ → Front → ℕ → List ℕ
-tablesOf s f v = values (tableCount f v) s (f .tables)
+tablesOf s f v = values (tableCount f v) s (f .«tables_at»)
 
 -- the anchor table first
 unfoldable pub anchorOf : List ℕ → Front → ℕ → List ℕ
@@ -29,13 +29,13 @@ sheetsOf s f v = drop v (tablesOf s f v)
 
 -- the least for 256 vertices and 2,048 edges, and a log of 8,192 words
 abbrev pub routeSize : ℕ
-routeSize = maxVertices
+routeSize = maxJobVertices
 
 abbrev pub logSize : ℕ
 logSize = 8192
 
 abbrev pub workSize : ℕ
-workSize = 5 * maxVertices + 1 + 2 * maxEdges
+workSize = 5 * maxJobVertices + 1 + 2 * maxJobEdges
 
 unfoldable pub zeros : Memory
 zeros = record { route = replicate routeSize 0; log = replicate logSize 0; work = replicate workSize 0 }
@@ -51,11 +51,11 @@ callWith plan f anchor sheets schedule =
       goal = f .goal;
       anchor = anchor;
       sheets = sheets;
-      count = f .guides;
+      count = f .«guide_count»;
       schedule = schedule;
       budget = f .budget;
       memory = zeros;
     }
 
-unfoldable pub callOf : List ℕ → Front → ℕ → Call
-callOf s f v = callWith (planOf s f) f (anchorOf s f v) (sheetsOf s f v) (scheduleOf s f)
+unfoldable pub callAsked : List ℕ → Front → ℕ → Call
+callAsked s f v = callWith (planOf s f) f (anchorOf s f v) (sheetsOf s f v) (scheduleOf s f)

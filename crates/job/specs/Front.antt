@@ -11,59 +11,59 @@ use Rattle.job.specs.declared.NumbersRead.{NumbersRead}
 use Rattle.job.specs.declared.NumbersRead.the-variants.{Past, Malformed}
 use Rattle.job.specs.Numbers.{endOf}
 use Rattle.job.specs.declared.FrontRead.{FrontRead}
-use Rattle.job.specs.declared.FrontRead.the-variants.{Whole, Broken}
+use Rattle.job.specs.declared.FrontRead.the-variants.{Whole, Refused}
 
 -- ---- limits
 
-abbrev pub maxRounds : ℕ
-maxRounds = 16
+abbrev pub maxJobRounds : ℕ
+maxJobRounds = 16
 
-abbrev pub maxGuides : ℕ
-maxGuides = 8
+abbrev pub maxJobGuides : ℕ
+maxJobGuides = 8
 
 -- ---- broken: bytes missing, a number of bad form, over 16 rounds or 8 guides
 
 -- what follows a number
 unfoldable pub following : NumberRead → (ℕ → ℕ → FrontRead) → FrontRead
 following (number.Value x next) rest = rest x next
-following (number.Refused p) rest = Broken
+following (number.Refused p) rest = Refused
 
 -- what follows several
 unfoldable pub past : NumbersRead → (ℕ → FrontRead) → FrontRead
 past (Past next) rest = rest next
-past Malformed rest = Broken
+past Malformed rest = Refused
 
 -- rounds and factors, guide count
 unfoldable pub rounds : List ℕ → ℕ → ℕ → ℕ → ℕ → ℕ → ℕ → FrontRead
-rounds s plan end start goal budget at =
-    following (read jobGroups s at) (λ rounds factors.
-    cond (ltb maxRounds rounds) Broken
-    (past (endOf (2 * rounds) s factors) (λ guidesAt.
-    following (read jobGroups s guidesAt) (λ guides tables.
-    cond (ltb maxGuides guides) Broken
+rounds s planAt planEnd start goal budget at =
+    following (read jobGroups s at) (λ roundCount factorsAt.
+    cond (ltb maxJobRounds roundCount) Refused
+    (past (endOf (2 * roundCount) s factorsAt) (λ guidesAt.
+    following (read jobGroups s guidesAt) (λ guideCount tablesAt.
+    cond (ltb maxJobGuides guideCount) Refused
     (Whole
     (record {
-      plan = plan;
-      end = end;
+      «plan_at» = planAt;
+      «plan_end» = planEnd;
       start = start;
       goal = goal;
       budget = budget;
-      rounds = rounds;
-      factors = factors;
-      guides = guides;
-      tables = tables;
+      «round_count» = roundCount;
+      «factors_at» = factorsAt;
+      «guide_count» = guideCount;
+      «tables_at» = tablesAt;
     }))))))
 
 -- start, goal, allowance
 unfoldable pub ends : List ℕ → ℕ → ℕ → FrontRead
-ends s plan end =
-    following (read jobGroups s end) (λ start goalAt.
+ends s planAt planEnd =
+    following (read jobGroups s planEnd) (λ start goalAt.
     following (read jobGroups s goalAt) (λ goal budgetAt.
     following (read jobGroups s budgetAt) (λ budget at.
-    rounds s plan end start goal budget at)))
+    rounds s planAt planEnd start goal budget at)))
 
 -- plan length, the plan
 unfoldable pub front : List ℕ → FrontRead
 front s =
-    following (read jobGroups s 0) (λ size plan.
-    cond (ltb (length s) (plan + size)) Broken (ends s plan (plan + size)))
+    following (read jobGroups s 0) (λ size planAt.
+    cond (ltb (length s) (planAt + size)) Refused (ends s planAt (planAt + size)))

@@ -8,7 +8,7 @@ use Rattle.search.specs.Outcome.{Ending, route, noRoute, unfinished, refused, F
 use Rattle.job.specs.declared.JobRead.{JobRead}
 use Rattle.job.specs.declared.JobRead.the-variants.{Accepted, Refused}
 use Rattle.job.specs.Reading.{jobRead}
-use Rattle.job.specs.Asked.{callOf}
+use Rattle.job.specs.Asked.{callAsked}
 
 -- the turns that log memory shows
 unfoldable pub turns : Figures → List ℕ → List ℕ
@@ -30,7 +30,7 @@ unfoldable pub callText : Call → List ℕ
 callText c = printed (figures (answer c)) (memoryAfter c .route) (memoryAfter c .log)
 
 unfoldable pub textOf : List ℕ → JobRead → List ℕ
-textOf s (Accepted f v) = callText (callOf s f v)
+textOf s (Accepted f v) = callText (callAsked s f v)
 textOf s (Refused n p) = refusedLine n p
 
 -- job bytes → printed text

@@ -12,34 +12,35 @@ use Rattle.job.specs.declared.NumbersRead.the-variants.{Past, Malformed}
 use Rattle.job.specs.Numbers.{endOf}
 use Rattle.job.specs.declared.Front.{Front}
 use Rattle.job.specs.declared.FrontRead.{FrontRead}
-use Rattle.job.specs.declared.FrontRead.the-variants.{Whole, Broken}
+use Rattle.job.specs.declared.FrontRead.the-variants.{Whole}
+use Rattle.job.specs.declared.FrontRead.the-variants as frontRead
 use Rattle.job.specs.Front.{front}
 use Rattle.job.specs.declared.JobRead.{JobRead}
 use Rattle.job.specs.declared.JobRead.the-variants.{Accepted, Refused}
 
 -- ---- limits
 
-abbrev pub maxBytes : ℕ
-maxBytes = 32768
+abbrev pub maxJobBytes : ℕ
+maxJobBytes = 32768
 
 -- the most places
-abbrev pub maxVertices : ℕ
-maxVertices = 256
+abbrev pub maxJobVertices : ℕ
+maxJobVertices = 256
 
 -- the most lanes
-abbrev pub maxEdges : ℕ
-maxEdges = 2048
+abbrev pub maxJobEdges : ℕ
+maxJobEdges = 2048
 
 -- ---- the plan next: 1 to 7, with positions inside it
 
 unfoldable pub planOf : List ℕ → Front → List ℕ
-planOf s f = take (f .end - f .plan) (drop (f .plan) s)
+planOf s f = take (f .«plan_end» - f .«plan_at») (drop (f .«plan_at») s)
 
 -- ---- the tables: V numbers each
 
 -- the numbers of the anchor table and the guide sheets
 unfoldable pub tableCount : Front → ℕ → ℕ
-tableCount f v = (1 + f .guides) * v
+tableCount f v = (1 + f .«guide_count») * v
 
 -- short or of bad form; or bytes are left over
 unfoldable pub afterTables : List ℕ → Front → ℕ → NumbersRead → JobRead
@@ -49,7 +50,7 @@ afterTables s f v (Past end) = cond (ltb end (length s)) (Refused 14 0) (Accepte
 -- V > 256, M > 2,048, or the tables
 unfoldable pub afterSizes : List ℕ → Front → ℕ → ℕ → JobRead
 afterSizes s f v m =
-    cond (ltb maxVertices v || ltb maxEdges m) (Refused 14 0) (afterTables s f v (endOf (tableCount f v) s (f .tables)))
+    cond (ltb maxJobVertices v || ltb maxJobEdges m) (Refused 14 0) (afterTables s f v (endOf (tableCount f v) s (f .«tables_at»)))
 
 unfoldable pub afterPlan : List ℕ → Front → PlanRead → JobRead
 afterPlan s f (checked.Sizes v m) = afterSizes s f v m
@@ -58,9 +59,9 @@ afterPlan s f (checked.Refused n p) = Refused n p
 -- ---- the whole job
 
 unfoldable pub afterFront : List ℕ → FrontRead → JobRead
-afterFront s Broken = Refused 14 0
+afterFront s frontRead.Refused = Refused 14 0
 afterFront s (Whole f) = afterPlan s f (sizes (decode (planOf s f)))
 
 -- first 14 for over 32,768 bytes
 unfoldable pub jobRead : List ℕ → JobRead
-jobRead s = cond (ltb maxBytes (length s)) (Refused 14 0) (afterFront s (front s))
+jobRead s = cond (ltb maxJobBytes (length s)) (Refused 14 0) (afterFront s (front s))

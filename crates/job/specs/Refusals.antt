@@ -11,8 +11,8 @@ use Rattle.job.specs.declared.Front.{Front}
 use Rattle.job.specs.declared.FrontRead.the-variants.{Whole}
 use Rattle.job.specs.declared.JobRead.the-variants.{Accepted, Refused}
 use Rattle.job.specs.Front.{front}
-use Rattle.job.specs.Reading.{maxBytes, planOf, jobRead}
-use Rattle.job.specs.Asked.{callOf}
+use Rattle.job.specs.Reading.{maxJobBytes, planOf, jobRead}
+use Rattle.job.specs.Asked.{callAsked}
 
 -- 8, 10, 12 and 13
 pub data Own : ℕ → Type 0 where
@@ -23,10 +23,10 @@ pub data Own : ℕ → Type 0 where
 
 -- 1 to 7 came before it, and 9 and 11 cannot occur
 pub record OwnRefusals : Type 0 where
-  pub own : (s : List ℕ) (f : Front) (v n p : ℕ) → jobRead s ≡ Accepted f v → faultOf (callOf s f v) ≡ fault n p → Own n
+  pub own : (s : List ℕ) (f : Front) (v n p : ℕ) → jobRead s ≡ Accepted f v → faultOf (callAsked s f v) ≡ fault n p → Own n
 
 -- where 14 does not come first, a fault of the plan is the job's refusal, its position inside the plan
 pub record PlanRefusals : Type 0 where
   pub plan :
-      (s : List ℕ) (f : Front) (n p : ℕ) → length s ≤ maxBytes → front s ≡ Whole f → sizes (decode (planOf s f)) ≡ checked.Refused n p →
+      (s : List ℕ) (f : Front) (n p : ℕ) → length s ≤ maxJobBytes → front s ≡ Whole f → sizes (decode (planOf s f)) ≡ checked.Refused n p →
       jobRead s ≡ Refused n p

@@ -15,6 +15,6 @@ pub record Texts (text old : List ℕ) (r : ℕ) (new : List ℕ) : Type 0 where
   pub few : r ≤ maxText
 
 -- route and log memory are no longer than the bench program's
-pub record Lent (route log : List ℕ) : Type 0 where
+pub record BenchSized (route log : List ℕ) : Type 0 where
   pub short-route : length route ≤ routeSize
   pub short-log : length log ≤ logSize

@@ -6,24 +6,24 @@ pub enum NumbersRead {
     Malformed,
 }
 
-// What stands before the tables: where the plan begins and ends, start, goal, budget (allowance), rounds,
-// where their factors begin, the guide count, and where the tables begin.
+// What stands before the tables: the offsets where the plan begins and ends, start, goal, budget (allowance),
+// the count of rounds, the offset of their factors, the count of guides, and the offset of the tables.
 pub struct Front {
-    pub plan: usize,
-    pub end: usize,
+    pub plan_at: usize,
+    pub plan_end: usize,
     pub start: u32,
     pub goal: u32,
     pub budget: u32,
-    pub rounds: u32,
-    pub factors: usize,
-    pub guides: u32,
-    pub tables: usize,
+    pub round_count: u32,
+    pub factors_at: usize,
+    pub guide_count: u32,
+    pub tables_at: usize,
 }
 
 // What stands before the tables; or refusal 14.
 pub enum FrontRead {
     Whole(Front),
-    Broken,
+    Refused,
 }
 
 // A job that may be asked, with V of its plan; or a refusal, number and position.

@@ -11,7 +11,7 @@ use Rattle.leb128.specs.declared.NumberRead.{NumberRead}
 use Rattle.leb128.specs.declared.NumberRead.the-variants.{Value, Refused}
 use Rattle.job.specs.Numbers.{valueBefore, values}
 use Rattle.job.proofs.Values.{values-refused}
-use Rattle.job_reader.specs.Stored.{after, storedAt}
+use Rattle.job_reader.specs.Stored.{after, valueStoredAt}
 
 -- what is to come from here, stored from here on, gives what the whole gives
 
@@ -27,7 +27,7 @@ storing-none s count at old =
 module _ (s : List ℕ) (count : ℕ) (old whole : List ℕ) (i next : ℕ) (now : List ℕ) where
   next-by :
       (k : ℕ) (r : NumberRead) → read jobGroups s next ≡ r → whole ≡ sets now i (values (suc k) s next) →
-      whole ≡ sets (storedAt i now r) (suc i) (values k s (after next r))
+      whole ≡ sets (valueStoredAt i now r) (suc i) (values k s (after next r))
   unfolding values valueBefore
   next-by k (Value x m) e h = h ∙ ap (λ (r : NumberRead). sets now i (valueBefore (values k s) r)) e
   next-by k (Refused q) e h =
@@ -35,12 +35,12 @@ module _ (s : List ℕ) (count : ℕ) (old whole : List ℕ) (i next : ℕ) (now
       ∙ ap (λ (l : List ℕ). sets now i l) (values-refused (suc k) s next q e)
       ∙ ap (λ (l : List ℕ). sets now (suc i) l) (sym (values-refused k s next q e))
 
-  size-by : (r : NumberRead) → length (storedAt i now r) ≡ length now
+  size-by : (r : NumberRead) → length (valueStoredAt i now r) ≡ length now
   size-by (Value x m) = length-set now i x
   size-by (Refused q) = refl
 
   pub storing-next :
-      (m : ℕ) (new : List ℕ) → i < count → m ≡ after next (read jobGroups s next) → new ≡ storedAt i now (read jobGroups s next) →
+      (m : ℕ) (new : List ℕ) → i < count → m ≡ after next (read jobGroups s next) → new ≡ valueStoredAt i now (read jobGroups s next) →
       Storing s count old whole i next now → Storing s count old whole (i + 1) m new
   storing-next m new l e f h =
       let k : count - i ≡ suc (count - (i + 1)) = omega arith in

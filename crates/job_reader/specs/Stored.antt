@@ -10,6 +10,6 @@ abbrev pub after : ℕ → NumberRead → ℕ
 after at (Value x next) = next
 after at (Refused p) = at
 
-abbrev pub storedAt : ℕ → List ℕ → NumberRead → List ℕ
-storedAt i old (Value x next) = set old i x
-storedAt i old (Refused p) = old
+abbrev pub valueStoredAt : ℕ → List ℕ → NumberRead → List ℕ
+valueStoredAt i old (Value x next) = set old i x
+valueStoredAt i old (Refused p) = old

@@ -9,76 +9,78 @@ use job::NumbersRead;
 use leb128::NumberRead;
 
 // The limits of a job: its rounds and guides.
-pub const MAX_ROUNDS: u32 = 16;
+pub const MAX_JOB_ROUNDS: u32 = 16;
 
-pub const MAX_GUIDES: u32 = 8;
+pub const MAX_JOB_GUIDES: u32 = 8;
 
 // Rounds and factors, and the guide count.
 fn read_rounds(
     job: &[u8],
-    plan: usize,
-    end: usize,
+    plan_at: usize,
+    plan_end: usize,
     start: u32,
     goal: u32,
     budget: u32,
     at: usize,
 ) -> FrontRead
-    ensures { λ r. ⌜ r ≡ rounds (now (job .entry)) plan end start goal budget at ⌝ }
+    ensures { λ r. ⌜ r ≡ rounds (now (job .entry)) «plan_at» «plan_end» start goal budget at ⌝ }
 {
-    let NumberRead::Value(rounds, factors) = leb128_reader::read_job_number(job, at) else {
-        return FrontRead::Broken;
+    let NumberRead::Value(round_count, factors_at) = leb128_reader::read_job_number(job, at) else {
+        return FrontRead::Refused;
     };
-    if MAX_ROUNDS < rounds {
-        return FrontRead::Broken;
+    if MAX_JOB_ROUNDS < round_count {
+        return FrontRead::Refused;
     }
-    let NumbersRead::Past(guides_at) = numbers::past(job, factors, 2 * rounds as usize) else {
-        return FrontRead::Broken;
+    let NumbersRead::Past(guides_at) = numbers::past(job, factors_at, 2 * round_count as usize)
+    else {
+        return FrontRead::Refused;
     };
-    let NumberRead::Value(guides, tables) = leb128_reader::read_job_number(job, guides_at) else {
-        return FrontRead::Broken;
+    let NumberRead::Value(guide_count, tables_at) = leb128_reader::read_job_number(job, guides_at)
+    else {
+        return FrontRead::Refused;
     };
-    if MAX_GUIDES < guides {
-        return FrontRead::Broken;
+    if MAX_JOB_GUIDES < guide_count {
+        return FrontRead::Refused;
     }
     FrontRead::Whole(Front {
-        plan,
-        end,
+        plan_at,
+        plan_end,
         start,
         goal,
         budget,
-        rounds,
-        factors,
-        guides,
-        tables,
+        round_count,
+        factors_at,
+        guide_count,
+        tables_at,
     })
 }
 
 // Start, goal and budget, and what follows.
-fn read_ends(job: &[u8], plan: usize, end: usize) -> FrontRead
-    ensures { λ r. ⌜ r ≡ ends (now (job .entry)) plan end ⌝ }
+fn read_ends(job: &[u8], plan_at: usize, plan_end: usize) -> FrontRead
+    ensures { λ r. ⌜ r ≡ ends (now (job .entry)) «plan_at» «plan_end» ⌝ }
 {
-    let NumberRead::Value(start, goal_at) = leb128_reader::read_job_number(job, end) else {
-        return FrontRead::Broken;
+    let NumberRead::Value(start, goal_at) = leb128_reader::read_job_number(job, plan_end) else {
+        return FrontRead::Refused;
     };
     let NumberRead::Value(goal, budget_at) = leb128_reader::read_job_number(job, goal_at) else {
-        return FrontRead::Broken;
+        return FrontRead::Refused;
     };
     let NumberRead::Value(budget, at) = leb128_reader::read_job_number(job, budget_at) else {
-        return FrontRead::Broken;
+        return FrontRead::Refused;
     };
-    read_rounds(job, plan, end, start, goal, budget, at)
+    read_rounds(job, plan_at, plan_end, start, goal, budget, at)
 }
 
 // The plan's place, and what follows.
 pub fn read_front(job: &[u8]) -> FrontRead
     ensures { λ r. ⌜ r ≡ front (now (job .entry)) ⌝ }
 {
-    let NumberRead::Value(size, plan) = leb128_reader::read_job_number(job, 0) else {
-        return FrontRead::Broken;
+    let NumberRead::Value(size, plan_at) = leb128_reader::read_job_number(job, 0) else {
+        return FrontRead::Refused;
     };
-    let end = plan + size as usize;
-    if job.len() < end {
-        return FrontRead::Broken;
+    let plan_end = plan_at + size as usize;
+    if job.len() < plan_end {
+        return FrontRead::Refused;
     }
-    read_ends(job, plan, end)
+    read_ends(job, plan_at, plan_end)
 }

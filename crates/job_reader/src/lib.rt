@@ -13,24 +13,25 @@ use job::JobRead;
 use job::NumbersRead;
 
 // The limits of a job: its bytes, vertices (places) and edges (lanes).
-pub const MAX_BYTES: usize = 32768;
+pub const MAX_JOB_BYTES: usize = 32768;
 
-pub const MAX_VERTICES: u32 = 256;
+pub const MAX_JOB_VERTICES: u32 = 256;
 
-pub const MAX_EDGES: u32 = 2048;
+pub const MAX_JOB_EDGES: u32 = 2048;
 
 // V, M, and the tables, which end the job.
 fn read_tables(job: &[u8], front: Front, vertices: u32, edges: u32) -> JobRead
     ensures { λ r. ⌜ r ≡ afterSizes (now (job .entry)) front vertices edges ⌝ }
 {
-    if MAX_VERTICES < vertices {
+    if MAX_JOB_VERTICES < vertices {
         return JobRead::Refused(14, 0);
     }
-    if MAX_EDGES < edges {
+    if MAX_JOB_EDGES < edges {
         return JobRead::Refused(14, 0);
     }
-    let count = 1 + front.guides as usize;
-    let NumbersRead::Past(end) = numbers::past(job, front.tables, count * vertices as usize) else {
+    let count = 1 + front.guide_count as usize;
+    let NumbersRead::Past(end) = numbers::past(job, front.tables_at, count * vertices as usize)
+    else {
         return JobRead::Refused(14, 0);
     };
     if end < job.len() {
@@ -54,14 +55,14 @@ fn read_plan(job: &[u8], front: Front, checked: PlanRead) -> JobRead
 pub fn read(job: &[u8]) -> JobRead
     ensures { λ r. ⌜ r ≡ jobRead (now (job .entry)) ⌝ }
 {
-    if MAX_BYTES < job.len() {
+    if MAX_JOB_BYTES < job.len() {
         return JobRead::Refused(14, 0);
     }
     let FrontRead::Whole(front) = front::read_front(job) else {
         return JobRead::Refused(14, 0);
     };
-    let plan = front.plan;
-    let end = front.end;
+    let plan = front.plan_at;
+    let end = front.plan_end;
     let checked = plan_check::check(&job[plan..end]);
     read_plan(job, front, checked)
 }

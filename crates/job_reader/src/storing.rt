@@ -5,14 +5,14 @@ ghost use lib.ListN.{length};
 ghost use lib.Seq.{sets};
 ghost use Rattle.leb128.specs.Number.{read, jobGroups};
 ghost use Rattle.job.specs.Numbers.{values};
-ghost use Rattle.job_reader.specs.Stored.{after, storedAt};
+ghost use Rattle.job_reader.specs.Stored.{after, valueStoredAt};
 use leb128::NumberRead;
 
 // One number stored at i, and the offset past it; where there is none, nothing is stored.
 fn store_one(job: &[u8], at: usize, into: &mut [u32], i: usize) -> usize
     requires { ⌜ i < length (now into) ⌝ }
     ensures { λ r. ⌜ r ≡ after at (read jobGroups (now (job .entry)) at) ⌝ }
-    ensures { λ r. ⌜ now (into .exit) ≡ storedAt i (now (into .entry)) (read jobGroups (now (job .entry)) at) ⌝ }
+    ensures { λ r. ⌜ now (into .exit) ≡ valueStoredAt i (now (into .entry)) (read jobGroups (now (job .entry)) at) ⌝ }
 {
     let NumberRead::Value(value, next) = leb128_reader::read_job_number(job, at) else {
         return at;

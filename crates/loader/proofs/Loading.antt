@@ -10,7 +10,7 @@ use lib.Seq.{sets, sets-eq, length-sets, set-append-left, length-take-le, drop-d
 use Rattle.graph.specs.declared.Edge.{Edge}
 use Rattle.graph.specs.declared.Cursor.{Cursor}
 use Rattle.graph.specs.declared.EdgeRead.{EdgeRead}
-use Rattle.graph.specs.declared.EdgeRead.the-variants.{Next, Fault}
+use Rattle.graph.specs.declared.EdgeRead.the-variants.{Next, Refused}
 use Rattle.graph.specs.declared.PlanRead.the-variants.{Sizes}
 use Rattle.graph.specs.Plan.{accepted, firstAt, past, nextEdge, edgesFrom, sizes}
 use Rattle.graph.specs.Lists.{headOf, costOf, over, edgesIn}
@@ -46,7 +46,7 @@ next-tail v s c e c′ h =
     }
 
 module _ (z : Size) (j : ℕ) (w : List ℕ) (c : Cursor) (r : EdgeRead) where
-  pub loaded-none : (n p : ℕ) → r ≡ Fault n p → (c ≡ cursorPast c r) × (w ≡ edgeStored z (c .tail) j w r)
+  pub loaded-none : (n p : ℕ) → r ≡ Refused n p → (c ≡ cursorPast c r) × (w ≡ edgeStored z (c .tail) j w r)
   unfolding cursorPast edgeStored
   loaded-none n p q = (rw q, rw q)
 

@@ -34,7 +34,7 @@ fn load_edge(bytes: &[u8], work: &mut [u32], z: Size, cursor: Cursor, j: u32) ->
 {
     let vertices = z.vertices;
     let edges = z.edges;
-    let EdgeRead::Next(edge, next) = cursor::step(cursor, bytes, vertices) else {
+    let EdgeRead::Next(edge, next) = cursor::next_edge(cursor, bytes, vertices) else {
         return cursor;
     };
     let before = cursor.tail;

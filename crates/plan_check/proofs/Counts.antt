@@ -4,9 +4,11 @@ use Prim.Native.Nat.{ℕ}
 use mathlib.Core.Path.{_≡_, sym, ap, _∙_}
 use mathlib.Core.List.{List}
 use Rattle.graph.specs.declared.Taken.{Taken}
-use Rattle.graph.specs.declared.Taken.the-variants.{Number, Bad}
+use Rattle.graph.specs.declared.Taken.the-variants.{Number}
+use Rattle.graph.specs.declared.Taken.the-variants as taken
 use Rattle.graph.specs.declared.Header.{Header}
-use Rattle.graph.specs.declared.Header.the-variants.{Counts, HeaderFault}
+use Rattle.graph.specs.declared.Header.the-variants.{Counts}
+use Rattle.graph.specs.declared.Header.the-variants as headerRead
 use Rattle.graph.specs.declared.PlanRead.{PlanRead}
 use Rattle.graph.specs.Rows.{take, taking, vertexCountRows, edgeCountRows}
 use Rattle.graph.specs.Plan.{firstAt, edgesFrom, header, afterHeader, decode, sizes}
@@ -15,7 +17,7 @@ use Rattle.plan_check.specs.Refusals.{headerRefusal, planRefusal}
 -- ---- the header
 
 module _ (s : List ℕ) where
-  module _ (t : Taken) (r : Header) (n p : ℕ) (f : r ≡ headerRefusal t) (b : t ≡ Bad n p) where
+  module _ (t : Taken) (r : Header) (n p : ℕ) (f : r ≡ headerRefusal t) (b : t ≡ taken.Refused n p) where
     pub header-vertices : t ≡ take s 0 vertexCountRows → r ≡ header s
     unfolding header taking
     header-vertices e = f ∙ ap headerRefusal b ∙ rw (sym e ∙ b)
@@ -31,7 +33,7 @@ module _ (s : List ℕ) where
 -- ---- the whole plan
 
 module _ (s : List ℕ) (h : Header) (a : PlanRead) where
-  pub check-header : (n p : ℕ) → a ≡ planRefusal h → h ≡ HeaderFault n p → h ≡ header s → a ≡ sizes (decode s)
+  pub check-header : (n p : ℕ) → a ≡ planRefusal h → h ≡ headerRead.Refused n p → h ≡ header s → a ≡ sizes (decode s)
   unfolding decode afterHeader sizes
   check-header n p f b e = f ∙ ap planRefusal b ∙ rw (sym e ∙ b)
 

@@ -11,9 +11,11 @@ use borrow.Author.Tests.{leb-false, lt-ltb, le-ltb}
 use Rattle.graph.specs.declared.Edge.{Edge}
 use Rattle.graph.specs.declared.Cursor.{Cursor}
 use Rattle.graph.specs.declared.Taken.{Taken}
-use Rattle.graph.specs.declared.Taken.the-variants.{Number, Bad}
+use Rattle.graph.specs.declared.Taken.the-variants.{Number}
+use Rattle.graph.specs.declared.Taken.the-variants as taken
 use Rattle.graph.specs.declared.EdgeRead.{EdgeRead}
-use Rattle.graph.specs.declared.EdgeRead.the-variants.{Next, Fault}
+use Rattle.graph.specs.declared.EdgeRead.the-variants.{Next}
+use Rattle.graph.specs.declared.EdgeRead.the-variants as edgeRead
 use Rattle.graph.specs.declared.PlanRead.{PlanRead}
 use Rattle.graph.specs.declared.PlanRead.the-variants.{Sizes, Refused}
 use Rattle.graph.specs.Limits.{maxVertices}
@@ -36,8 +38,8 @@ taken-head v l s at h next e =
     let p : Passed s at (headRows v l) h next = take-passed s at (headRows v l) h next e in leb-false v h (p .passes .0)
 
 module _ (v : ℕ) (s : List ℕ) (c : Cursor) where
-  module _ (t : Taken) (r : EdgeRead) (n p : ℕ) (f : r ≡ cursorRefusal t) (b : t ≡ Bad n p) where
-    is-fault : r ≡ Fault n p
+  module _ (t : Taken) (r : EdgeRead) (n p : ℕ) (f : r ≡ cursorRefusal t) (b : t ≡ taken.Refused n p) where
+    is-fault : r ≡ edgeRead.Refused n p
     is-fault = f ∙ ap cursorRefusal b
 
     pub step-tail : t ≡ take s (c .at) (tailRows v (c .tail)) → r ≡ nextEdge v s c
@@ -120,7 +122,7 @@ module _ (v m : ℕ) (s : List ℕ) (at : ℕ) where
         }
 
     pub told-fault :
-        (r : EdgeRead) (a : PlanRead) (n p : ℕ) → a ≡ edgeRefusal r → r ≡ Fault n p → r ≡ nextEdge v s c →
+        (r : EdgeRead) (a : PlanRead) (n p : ℕ) → a ≡ edgeRefusal r → r ≡ edgeRead.Refused n p → r ≡ nextEdge v s c →
         a ≡ sizes (edgesFrom v m s (firstAt at))
     unfolding edgesFrom onward sizes more
     told-fault r a n p f b e =

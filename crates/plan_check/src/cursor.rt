@@ -22,8 +22,8 @@ fn fault(taken: Taken) -> EdgeRead
     ensures { λ r. ⌜ r ≡ cursorRefusal taken ⌝ }
 {
     match taken {
-        Taken::Number(_, _) => EdgeRead::Fault(0, 0),
-        Taken::Bad(n, at) => EdgeRead::Fault(n, at),
+        Taken::Number(_, _) => EdgeRead::Refused(0, 0),
+        Taken::Refused(n, at) => EdgeRead::Refused(n, at),
     }
 }
 
@@ -39,7 +39,7 @@ pub fn first(at: usize) -> Cursor
 }
 
 // The next edge of a plan with this many vertices, and the cursor past it.
-pub fn step(cursor: Cursor, bytes: &[u8], vertices: u32) -> EdgeRead
+pub fn next_edge(cursor: Cursor, bytes: &[u8], vertices: u32) -> EdgeRead
     ensures { λ r. ⌜ r ≡ nextEdge vertices (now (bytes .entry)) cursor ⌝ }
 {
     let at = cursor.at;

@@ -17,8 +17,8 @@ fn header_fault(taken: Taken) -> Header
     ensures { λ r. ⌜ r ≡ headerRefusal taken ⌝ }
 {
     match taken {
-        Taken::Number(_, _) => Header::HeaderFault(0, 0),
-        Taken::Bad(n, at) => Header::HeaderFault(n, at),
+        Taken::Number(_, _) => Header::Refused(0, 0),
+        Taken::Refused(n, at) => Header::Refused(n, at),
     }
 }
 
@@ -43,7 +43,7 @@ pub fn header_refusal(read: Header) -> PlanRead
 {
     match read {
         Header::Counts(_, _, _) => PlanRead::Refused(0, 0),
-        Header::HeaderFault(n, at) => PlanRead::Refused(n, at),
+        Header::Refused(n, at) => PlanRead::Refused(n, at),
     }
 }
 
@@ -53,7 +53,7 @@ fn edge_fault(read: EdgeRead) -> PlanRead
 {
     match read {
         EdgeRead::Next(_, _) => PlanRead::Refused(0, 0),
-        EdgeRead::Fault(n, at) => PlanRead::Refused(n, at),
+        EdgeRead::Refused(n, at) => PlanRead::Refused(n, at),
     }
 }
 
@@ -64,7 +64,7 @@ pub fn check_edges(bytes: &[u8], vertices: u32, edges: u32, at: usize) -> PlanRe
     let mut cursor = cursor::first(at);
     let mut left = edges;
     while 0 < left {
-        let read = cursor::step(cursor, bytes, vertices);
+        let read = cursor::next_edge(cursor, bytes, vertices);
         let EdgeRead::Next(_, next) = read else {
             return edge_fault(read);
         };

@@ -10,13 +10,13 @@ pub fn take_vertex_count(bytes: &[u8]) -> Taken
     ensures { λ r. ⌜ r ≡ take (now (bytes .entry)) 0 vertexCountRows ⌝ }
 {
     let NumberRead::Value(count, next) = leb128_reader::read_plan_number(bytes, 0) else {
-        return Taken::Bad(1, 0);
+        return Taken::Refused(1, 0);
     };
     if count == 0 {
-        return Taken::Bad(2, 0);
+        return Taken::Refused(2, 0);
     }
     if graph::MAX_VERTICES < count {
-        return Taken::Bad(2, 0);
+        return Taken::Refused(2, 0);
     }
     Taken::Number(count, next)
 }
@@ -26,10 +26,10 @@ pub fn take_edge_count(bytes: &[u8], at: usize) -> Taken
     ensures { λ r. ⌜ r ≡ take (now (bytes .entry)) at edgeCountRows ⌝ }
 {
     let NumberRead::Value(count, next) = leb128_reader::read_plan_number(bytes, at) else {
-        return Taken::Bad(1, at);
+        return Taken::Refused(1, at);
     };
     if graph::MAX_EDGES < count {
-        return Taken::Bad(3, at);
+        return Taken::Refused(3, at);
     }
     Taken::Number(count, next)
 }
@@ -39,11 +39,11 @@ pub fn take_tail(bytes: &[u8], at: usize, vertices: u32, tail: u32) -> Taken
     ensures { λ r. ⌜ r ≡ take (now (bytes .entry)) at (tailRows vertices tail) ⌝ }
 {
     let NumberRead::Value(difference, next) = leb128_reader::read_plan_number(bytes, at) else {
-        return Taken::Bad(1, at);
+        return Taken::Refused(1, at);
     };
     let sum = tail as u64 + difference as u64;
     if vertices as u64 <= sum {
-        return Taken::Bad(4, at);
+        return Taken::Refused(4, at);
     }
     Taken::Number(difference, next)
 }
@@ -53,13 +53,13 @@ pub fn take_head(bytes: &[u8], at: usize, vertices: u32, least: u32) -> Taken
     ensures { λ r. ⌜ r ≡ take (now (bytes .entry)) at (headRows vertices least) ⌝ }
 {
     let NumberRead::Value(head, next) = leb128_reader::read_plan_number(bytes, at) else {
-        return Taken::Bad(1, at);
+        return Taken::Refused(1, at);
     };
     if vertices <= head {
-        return Taken::Bad(4, at);
+        return Taken::Refused(4, at);
     }
     if head < least {
-        return Taken::Bad(6, at);
+        return Taken::Refused(6, at);
     }
     Taken::Number(head, next)
 }
@@ -69,10 +69,10 @@ pub fn take_cost(bytes: &[u8], at: usize) -> Taken
     ensures { λ r. ⌜ r ≡ take (now (bytes .entry)) at costRows ⌝ }
 {
     let NumberRead::Value(cost, next) = leb128_reader::read_plan_number(bytes, at) else {
-        return Taken::Bad(1, at);
+        return Taken::Refused(1, at);
     };
     if graph::MAX_COST < cost {
-        return Taken::Bad(5, at);
+        return Taken::Refused(5, at);
     }
     Taken::Number(cost, next)
 }

@@ -12,7 +12,8 @@ use borrow.Author.Tests.{leb-true}
 use Rattle.graph.specs.declared.Edge.{Edge}
 use Rattle.graph.specs.declared.Cursor.{Cursor}
 use Rattle.graph.specs.declared.EdgeRead.{EdgeRead}
-use Rattle.graph.specs.declared.EdgeRead.the-variants.{Next, Fault}
+use Rattle.graph.specs.declared.EdgeRead.the-variants.{Next}
+use Rattle.graph.specs.declared.EdgeRead.the-variants as edgeRead
 use Rattle.graph.specs.declared.PlanRead.{PlanRead}
 use Rattle.graph.specs.declared.PlanRead.the-variants.{Sizes, Refused}
 use Rattle.graph.specs.declared.Header.{Header}
@@ -23,7 +24,7 @@ use Rattle.graph.proofs.Tests.{and-true}
 use Rattle.graph.proofs.Over.{sets-front}
 use Rattle.plan_check.specs.Past.{cursorPast}
 use Rattle.plan_check.proofs.Checked.{sized-by, checked-sizes, Stored, stored-none, stored-next, first, cursor-next, rest-is, none-left}
-use Rattle.plan_reader.specs.Stored.{Stepped, storedAt}
+use Rattle.plan_reader.specs.Stored.{HasNext, fieldStoredAt}
 
 -- one list after i edges: the rest stored from here gives what all of them stored from the front give
 pub record Column (v m : ℕ) (s : List ℕ) (at i : ℕ) (c : Cursor) (field : Edge → ℕ) (old new : List ℕ) : Type 0 where
@@ -41,7 +42,7 @@ module _ (v m : ℕ) (s : List ℕ) (at : ℕ) where
 
   -- the next edge is there
   module _ (i : ℕ) (c : Cursor) (more : i < m) (h : Stored v m s i c) where
-    pub stepped : Stepped v s c
+    pub stepped : HasNext v s c
     stepped =
         record {
           edge = first v m s at i c more h .edge;
@@ -51,8 +52,8 @@ module _ (v m : ℕ) (s : List ℕ) (at : ℕ) where
 
     pub column-next :
         (field : Edge → ℕ) (old new : List ℕ) → Column v m s at i c field old new →
-        Column v m s at (suc i) (first v m s at i c more h .after) field old (storedAt field i new (nextEdge v s c))
-    unfolding storedAt
+        Column v m s at (suc i) (first v m s at i c more h .after) field old (fieldStoredAt field i new (nextEdge v s c))
+    unfolding fieldStoredAt
     column-next field old new k =
         rw (first v m s at i c more h .is)
         record {
@@ -95,8 +96,8 @@ module _ (v m : ℕ) (s : List ℕ) (at : ℕ) (ts hs cs : List ℕ) where
 
   pub filled-next :
       (i : ℕ) (c c′ : Cursor) (ts′ hs′ cs′ ts″ hs″ cs″ : List ℕ) → i < m → Filled v m s at i c ts hs cs ts′ hs′ cs′ →
-      c′ ≡ cursorPast c (nextEdge v s c) → ts″ ≡ storedAt tailOf i ts′ (nextEdge v s c) → hs″ ≡ storedAt headOf i hs′ (nextEdge v s c) →
-      cs″ ≡ storedAt costOf i cs′ (nextEdge v s c) → Filled v m s at (i + 1) c′ ts hs cs ts″ hs″ cs″
+      c′ ≡ cursorPast c (nextEdge v s c) → ts″ ≡ fieldStoredAt tailOf i ts′ (nextEdge v s c) → hs″ ≡ fieldStoredAt headOf i hs′ (nextEdge v s c) →
+      cs″ ≡ fieldStoredAt costOf i cs′ (nextEdge v s c) → Filled v m s at (i + 1) c′ ts hs cs ts″ hs″ cs″
   filled-next i c c′ ts′ hs′ cs′ ts″ hs″ cs″ l f q a b d =
       let z : i + 1 ≡ suc i = omega arith in
       rw (z, q ∙ cursor-next v m s at i c l (f .stored), a, b, d)
@@ -124,20 +125,20 @@ module _ (v m : ℕ) (s : List ℕ) (at : ℕ) (ts hs cs : List ℕ) where
 -- ---- one edge stored, or none
 
 module _ (c : Cursor) (f : Edge → ℕ) (i : ℕ) (old : List ℕ) (r : EdgeRead) where
-  pub cursor-kept : (n p : ℕ) → r ≡ Fault n p → c ≡ cursorPast c r
+  pub cursor-kept : (n p : ℕ) → r ≡ edgeRead.Refused n p → c ≡ cursorPast c r
   unfolding cursorPast
   cursor-kept n p q = rw q
 
-  pub list-kept : (n p : ℕ) → r ≡ Fault n p → old ≡ storedAt f i old r
-  unfolding storedAt
+  pub list-kept : (n p : ℕ) → r ≡ edgeRead.Refused n p → old ≡ fieldStoredAt f i old r
+  unfolding fieldStoredAt
   list-kept n p q = rw q
 
   pub cursor-moved : (e : Edge) (c′ : Cursor) → r ≡ Next e c′ → c′ ≡ cursorPast c r
   unfolding cursorPast
   cursor-moved e c′ q = rw q
 
-  pub list-stored : (e : Edge) (c′ : Cursor) → r ≡ Next e c′ → set old i (f e) ≡ storedAt f i old r
-  unfolding storedAt
+  pub list-stored : (e : Edge) (c′ : Cursor) → r ≡ Next e c′ → set old i (f e) ≡ fieldStoredAt f i old r
+  unfolding fieldStoredAt
   list-stored e c′ q = rw q
 
 -- ---- the whole plan

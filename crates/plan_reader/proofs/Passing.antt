@@ -12,7 +12,7 @@ use Rattle.graph.specs.declared.Cursor.{Cursor}
 use Rattle.graph.specs.declared.Taken.the-variants.{Number}
 use Rattle.graph.specs.Rows.{Row, take, tailRows, headRows, costRows}
 use Rattle.graph.specs.Plan.{leastAfter, past}
-use Rattle.plan_reader.specs.Stored.{Stepped}
+use Rattle.plan_reader.specs.Stored.{HasNext}
 use Rattle.graph.proofs.Rows.{Passes, Passed, passed-take}
 use Rattle.graph.proofs.OneEdge.{Read, read-edge}
 
@@ -30,7 +30,7 @@ module _ (s : List ℕ) (at : ℕ) (rows : ℕ → List Row) (x next : ℕ) (p :
   taken : (y end : ℕ) → read planGroups s at ≡ Value y end → take s at rows ≡ Number y end
   taken y end e = passed-take s at rows y end e (subst (λ (z : ℕ). Passes (rows z)) (value-same y end e) (p .passes))
 
-module _ (v : ℕ) (s : List ℕ) (c : Cursor) (h : Stepped v s c) where
+module _ (v : ℕ) (s : List ℕ) (c : Cursor) (h : HasNext v s c) where
   found : Read v s c (h .edge) (h .after .at)
   found = read-edge v s c (h .edge) (h .after) (h .is) .0
 

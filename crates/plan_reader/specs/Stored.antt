@@ -6,16 +6,16 @@ use lib.ListN.{set}
 use Rattle.graph.specs.declared.Edge.{Edge}
 use Rattle.graph.specs.declared.Cursor.{Cursor}
 use Rattle.graph.specs.declared.EdgeRead.{EdgeRead}
-use Rattle.graph.specs.declared.EdgeRead.the-variants.{Next, Fault}
+use Rattle.graph.specs.declared.EdgeRead.the-variants.{Next, Refused}
 use Rattle.graph.specs.Plan.{nextEdge}
 
 -- the step from a cursor gives an edge, as in a plan that was checked
-pub record Stepped (v : ℕ) (s : List ℕ) (c : Cursor) : Type 0 where
+pub record HasNext (v : ℕ) (s : List ℕ) (c : Cursor) : Type 0 where
   pub edge : Edge
   pub after : Cursor
   pub is : nextEdge v s c ≡ Next edge after
 
 -- one edge stored at i in one list
-unfoldable pub storedAt : (Edge → ℕ) → ℕ → List ℕ → EdgeRead → List ℕ
-storedAt field i old (Next e c) = set old i (field e)
-storedAt field i old (Fault n p) = old
+unfoldable pub fieldStoredAt : (Edge → ℕ) → ℕ → List ℕ → EdgeRead → List ℕ
+fieldStoredAt field i old (Next e c) = set old i (field e)
+fieldStoredAt field i old (Refused n p) = old

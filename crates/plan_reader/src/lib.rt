@@ -11,7 +11,7 @@ ghost use Rattle.graph.specs.declared.PlanRead.the-variants.{Sizes};
 ghost use Rattle.graph.specs.Plan.{firstAt, nextEdge, edgesFrom, sizes};
 ghost use Rattle.graph.specs.Lists.{tailOf, headOf, costOf, over, edgesIn, readAnswer, listAfter};
 ghost use Rattle.plan_check.specs.Past.{cursorPast};
-ghost use Rattle.plan_reader.specs.Stored.{Stepped, storedAt};
+ghost use Rattle.plan_reader.specs.Stored.{HasNext, fieldStoredAt};
 use graph::Cursor;
 use graph::EdgeRead;
 use graph::Header;
@@ -45,13 +45,13 @@ fn store(
     requires { ⌜ i < length (now tails) ⌝ }
     requires { ⌜ i < length (now heads) ⌝ }
     requires { ⌜ i < length (now costs) ⌝ }
-    requires { ⌜ Stepped vertices (now bytes) cursor ⌝ }
+    requires { ⌜ HasNext vertices (now bytes) cursor ⌝ }
     ensures { λ r. ⌜ r ≡ cursorPast cursor (nextEdge vertices (now (bytes .entry)) cursor) ⌝ }
-    ensures { λ r. ⌜ now (tails .exit) ≡ storedAt tailOf i (now (tails .entry)) (nextEdge vertices (now (bytes .entry)) cursor) ⌝ }
-    ensures { λ r. ⌜ now (heads .exit) ≡ storedAt headOf i (now (heads .entry)) (nextEdge vertices (now (bytes .entry)) cursor) ⌝ }
-    ensures { λ r. ⌜ now (costs .exit) ≡ storedAt costOf i (now (costs .entry)) (nextEdge vertices (now (bytes .entry)) cursor) ⌝ }
+    ensures { λ r. ⌜ now (tails .exit) ≡ fieldStoredAt tailOf i (now (tails .entry)) (nextEdge vertices (now (bytes .entry)) cursor) ⌝ }
+    ensures { λ r. ⌜ now (heads .exit) ≡ fieldStoredAt headOf i (now (heads .entry)) (nextEdge vertices (now (bytes .entry)) cursor) ⌝ }
+    ensures { λ r. ⌜ now (costs .exit) ≡ fieldStoredAt costOf i (now (costs .entry)) (nextEdge vertices (now (bytes .entry)) cursor) ⌝ }
 {
-    let EdgeRead::Next(edge, next) = checked::step_checked(cursor, bytes, vertices) else {
+    let EdgeRead::Next(edge, next) = checked::next_edge(cursor, bytes, vertices) else {
         return cursor;
     };
     tails[i] = edge.tail;

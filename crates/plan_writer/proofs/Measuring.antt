@@ -16,9 +16,11 @@ use Rattle.leb128.proofs.Laws.{split, encode-few}
 use Rattle.graph.specs.declared.Edge.{Edge}
 use Rattle.graph.specs.declared.Cursor.{Cursor}
 use Rattle.graph.specs.declared.EdgeRead.{EdgeRead}
-use Rattle.graph.specs.declared.EdgeRead.the-variants.{Next, Fault}
+use Rattle.graph.specs.declared.EdgeRead.the-variants.{Next}
+use Rattle.graph.specs.declared.EdgeRead.the-variants as edgeRead
 use Rattle.graph.specs.declared.PlanWritten.{PlanWritten}
-use Rattle.graph.specs.declared.PlanWritten.the-variants.{Count, Rejected}
+use Rattle.graph.specs.declared.PlanWritten.the-variants.{Count}
+use Rattle.graph.specs.declared.PlanWritten.the-variants as planWritten
 use Rattle.graph.specs.Limits.{maxCost}
 use Rattle.graph.specs.Rows.{Row, through}
 use Rattle.graph.specs.Plan.{past, firstAt}
@@ -82,19 +84,19 @@ unfolding planGroups
 edge-few t e = omega (arith, edge-length t e, encode-few 3 (e .tail - t), encode-few 3 (e .head), encode-few 3 (e .cost))
 
 module _ (v : ℕ) (c : Cursor) (i : ℕ) (e : Edge) where
-  pub tail-refused : v ≤ e .tail → Fault 4 i ≡ edgeMeasured v c i e
+  pub tail-refused : v ≤ e .tail → edgeRead.Refused 4 i ≡ edgeMeasured v c i e
   unfolding edgeMeasured edgeRows through
   tail-refused h = simp (le-leb v (e .tail) h)
 
-  pub head-refused : e .tail < v → v ≤ e .head → Fault 4 i ≡ edgeMeasured v c i e
+  pub head-refused : e .tail < v → v ≤ e .head → edgeRead.Refused 4 i ≡ edgeMeasured v c i e
   unfolding edgeMeasured edgeRows through
   head-refused t h = simp (lt-leb v (e .tail) t, le-leb v (e .head) h)
 
-  pub order-refused : e .tail < v → e .head < v → falls c e ≡ true → Fault 6 i ≡ edgeMeasured v c i e
+  pub order-refused : e .tail < v → e .head < v → falls c e ≡ true → edgeRead.Refused 6 i ≡ edgeMeasured v c i e
   unfolding edgeMeasured edgeRows through falls
   order-refused t h f = simp (lt-leb v (e .tail) t, lt-leb v (e .head) h, f)
 
-  pub cost-refused : e .tail < v → e .head < v → falls c e ≡ false → maxCost < e .cost → Fault 5 i ≡ edgeMeasured v c i e
+  pub cost-refused : e .tail < v → e .head < v → falls c e ≡ false → maxCost < e .cost → edgeRead.Refused 5 i ≡ edgeMeasured v c i e
   unfolding edgeMeasured edgeRows through falls
   cost-refused t h f k = simp (lt-leb v (e .tail) t, lt-leb v (e .head) h, f, lt-ltb maxCost (e .cost) k)
 
@@ -148,7 +150,7 @@ through-map f (r ∷ rs) refuse next =
 -- what follows an edge that was measured, or its refusal
 unfoldable measuredOn : (Cursor → PlanWritten) → EdgeRead → PlanWritten
 measuredOn go (Next e c) = go c
-measuredOn go (Fault n p) = Rejected n p
+measuredOn go (edgeRead.Refused n p) = planWritten.Refused n p
 
 module _ (v : ℕ) (c : Cursor) (i : ℕ) (e : Edge) (es : List Edge) where
   -- the bytes of an edge and of those after it, counted from an offset
@@ -161,20 +163,20 @@ module _ (v : ℕ) (c : Cursor) (i : ℕ) (e : Edge) (es : List Edge) where
   measured-step =
       through-map (λ f. measured f (c .at + length (edgesBytes (c .tail) (e ∷ es)))) (edgeRows v (c .tail) (c .least) e) (λ n. fault n i) _
       ∙ rw (edges-length, add-one i) refl
-      ∙ sym (through-map (measuredOn (λ (d : Cursor). edgesMeasured v d (i + 1) es)) (edgeRows v (c .tail) (c .least) e) (λ n. Fault n i) _)
+      ∙ sym (through-map (measuredOn (λ (d : Cursor). edgesMeasured v d (i + 1) es)) (edgeRows v (c .tail) (c .least) e) (λ n. edgeRead.Refused n i) _)
 
   pub measured-next : (d : Edge) (c′ : Cursor) → edgeMeasured v c i e ≡ Next d c′ → edgesMeasured v c i (e ∷ es) ≡ edgesMeasured v c′ (i + 1) es
   unfolding measuredOn
   measured-next d c′ h = measured-step ∙ ap (measuredOn (λ (d : Cursor). edgesMeasured v d (i + 1) es)) h
 
-  pub measured-refused : (n p : ℕ) → edgeMeasured v c i e ≡ Fault n p → edgesMeasured v c i (e ∷ es) ≡ Rejected n p
+  pub measured-refused : (n p : ℕ) → edgeMeasured v c i e ≡ edgeRead.Refused n p → edgesMeasured v c i (e ∷ es) ≡ planWritten.Refused n p
   unfolding measuredOn
   measured-refused n p h = measured-step ∙ ap (measuredOn (λ (d : Cursor). edgesMeasured v d (i + 1) es)) h
 
 pub measured-few : (v : ℕ) (c : Cursor) (i : ℕ) (e d : Edge) (c′ : Cursor) → edgeMeasured v c i e ≡ Next d c′ → c′ .at ≤ c .at + 9
 unfolding edgeMeasured past
 measured-few v c i e d c′ h =
-    let q = through-clear (λ (x : EdgeRead). x ≡ Next d c′) (λ n. Fault n i) (λ n. next≢fault) (edgeRows v (c .tail) (c .least) e) _ h in
+    let q = through-clear (λ (x : EdgeRead). x ≡ Next d c′) (λ n. edgeRead.Refused n i) (λ n. next≢fault) (edgeRows v (c .tail) (c .least) e) _ h in
     let k : past e (c .at + length (edgeBytes (c .tail) e)) ≡ c′ = cc (q .1) in
     omega (arith, ap (λ (x : Cursor). x .at) k, edge-few (c .tail) e)
 
@@ -203,7 +205,7 @@ module _ {v : ℕ} {ts hs cs : List ℕ} {start : ℕ} {c : Cursor} {i : ℕ} (m
     whole = ap (edgesMeasured v c i) (sym (rest-is ts hs cs i q h e g)) ∙ m .same
 
     pub measuring-refused :
-        {n p : ℕ} → edgeMeasured v c i e ≡ Fault n p → Rejected n p ≡ edgesMeasured v (firstAt start) 0 (edgesOf ts hs cs)
+        {n p : ℕ} → edgeMeasured v c i e ≡ edgeRead.Refused n p → planWritten.Refused n p ≡ edgesMeasured v (firstAt start) 0 (edgesOf ts hs cs)
     measuring-refused {n} {p} k = sym (measured-refused v c i e (rest ts hs cs (i + 1)) n p k) ∙ whole
 
     pub measuring-next : {d : Edge} {c′ : Cursor} → edgeMeasured v c i e ≡ Next d c′ → Measuring v ts hs cs start c′ (i + 1)

@@ -12,7 +12,7 @@ use borrow.Author.Tests.{lt-ltb, le-ltb, le-leb, lt-leb, eq-eqb, ne-eqb}
 use Rattle.leb128.specs.Number.{encode, planGroups}
 use Rattle.graph.specs.declared.Edge.{Edge}
 use Rattle.graph.specs.declared.PlanWritten.{PlanWritten}
-use Rattle.graph.specs.declared.PlanWritten.the-variants.{Count, Rejected}
+use Rattle.graph.specs.declared.PlanWritten.the-variants.{Count, Refused}
 use Rattle.graph.specs.Limits.{maxVertices, maxEdges}
 use Rattle.graph.specs.Rows.{through, vertexCountRows}
 use Rattle.graph.specs.Plan.{firstAt}
@@ -33,26 +33,26 @@ edges-count ts hs cs q =
     sym (length-map (edgesOf ts hs cs) (λ (e : Edge). e .tail)) ∙ ap length (columns ts hs cs (q .heads) (q .costs) .tails-are)
 
 module _ (v : ℕ) (ts hs cs : List ℕ) where
-  pub none-refused : v ≡ 0 → Rejected 2 0 ≡ planMeasured v ts hs cs
+  pub none-refused : v ≡ 0 → Refused 2 0 ≡ planMeasured v ts hs cs
   unfolding planMeasured measured writeFault vertexCountRows through
   none-refused h = simp (eq-eqb v 0 h)
 
-  pub many-refused : maxVertices < v → Rejected 2 0 ≡ planMeasured v ts hs cs
+  pub many-refused : maxVertices < v → Refused 2 0 ≡ planMeasured v ts hs cs
   unfolding planMeasured measured writeFault vertexCountRows through
   many-refused h = simp (ne-eqb v 0 (λ e. omega arith), lt-ltb maxVertices v h)
 
   module _ (some : v ≡ 0 → ⊥) (few : v ≤ maxVertices) where
-    pub long-refused : maxEdges < length ts → Rejected 3 0 ≡ planMeasured v ts hs cs
+    pub long-refused : maxEdges < length ts → Refused 3 0 ≡ planMeasured v ts hs cs
     unfolding planMeasured measured writeFault vertexCountRows listRows through
     long-refused h = simp (ne-eqb v 0 some, le-ltb maxVertices v few, lt-ltb maxEdges (length ts) h)
 
     module _ (short : length ts ≤ maxEdges) where
-      pub heads-refused : (length hs ≡ length ts → ⊥) → Rejected 3 0 ≡ planMeasured v ts hs cs
+      pub heads-refused : (length hs ≡ length ts → ⊥) → Refused 3 0 ≡ planMeasured v ts hs cs
       unfolding planMeasured measured writeFault vertexCountRows listRows through
       heads-refused h =
           simp (ne-eqb v 0 some, le-ltb maxVertices v few, le-ltb maxEdges (length ts) short, ne-eqb (length hs) (length ts) h)
 
-      pub costs-refused : length hs ≡ length ts → (length cs ≡ length ts → ⊥) → Rejected 3 0 ≡ planMeasured v ts hs cs
+      pub costs-refused : length hs ≡ length ts → (length cs ≡ length ts → ⊥) → Refused 3 0 ≡ planMeasured v ts hs cs
       unfolding planMeasured measured writeFault vertexCountRows listRows through
       costs-refused e h =
           simp (
@@ -164,7 +164,7 @@ module _ (v : ℕ) (ts hs cs out : List ℕ) where
   measured-none none n size e = (refl, cc)
   measured-none (fault k p) n size e = absurd (let z : _≡_ {A = ℕ} 0 1 = cc in omega arith)
 
-  measured-fault : (f : Fault) (bytes : List ℕ) (n p : ℕ) → measured f (length bytes) ≡ Rejected n p → writtenAs f bytes out ≡ Rejected n p
+  measured-fault : (f : Fault) (bytes : List ℕ) (n p : ℕ) → measured f (length bytes) ≡ Refused n p → writtenAs f bytes out ≡ Refused n p
   unfolding measured writtenAs
   measured-fault none bytes n p e = absurd (let z : _≡_ {A = ℕ} 0 1 = cc in omega arith)
   measured-fault (fault k q) bytes n p e = e
@@ -172,7 +172,7 @@ module _ (v : ℕ) (ts hs cs out : List ℕ) where
   abbrev Answers : PlanWritten → List ℕ → Type 0
   Answers r out′ = (r ≡ writeAnswer v ts hs cs out) × (out′ ≡ outAfter v ts hs cs out r)
 
-  pub answers-fault : (r : PlanWritten) (n p : ℕ) → r ≡ planMeasured v ts hs cs → r ≡ Rejected n p → Answers r out
+  pub answers-fault : (r : PlanWritten) (n p : ℕ) → r ≡ planMeasured v ts hs cs → r ≡ Refused n p → Answers r out
   unfolding planMeasured writeAnswer outAfter
   answers-fault r n p e k = (
     k ∙ sym (measured-fault (writeFault v ts hs cs) (bytesOf v (edgesOf ts hs cs)) n p (sym e ∙ k)),
@@ -188,15 +188,15 @@ module _ (v : ℕ) (ts hs cs out : List ℕ) where
     plan-fits h = record { passes = counted .0; room = omega (arith, counted .1) }
 
     -- there is room for the bytes, or not
-    answers-by : (b : Bool) → leb size (length out) ≡ b → cond b (Count size) (Rejected 11 0) ≡ writeAnswer v ts hs cs out
+    answers-by : (b : Bool) → leb size (length out) ≡ b → cond b (Count size) (Refused 11 0) ≡ writeAnswer v ts hs cs out
     unfolding writeAnswer writtenAs
-    answers-by b h = rw (counted .0, counted .1) (ap (λ (t : Bool). cond t (Count size) (Rejected 11 0)) (sym h))
+    answers-by b h = rw (counted .0, counted .1) (ap (λ (t : Bool). cond t (Count size) (Refused 11 0)) (sym h))
 
     pub answers-count :
         size ≤ length out → (out′ : List ℕ) → out′ ≡ over (bytesOf v (edgesOf ts hs cs)) out → Answers (Count size) out′
     unfolding outAfter
     answers-count h out′ m = (answers-by true (le-leb size (length out) h), m)
 
-    pub answers-short : length out < size → Answers (Rejected 11 0) out
+    pub answers-short : length out < size → Answers (Refused 11 0) out
     unfolding outAfter
     answers-short h = (answers-by false (lt-leb size (length out) h), refl)

@@ -9,9 +9,11 @@ use Rattle.leb128.specs.Number.{planGroups}
 use Rattle.graph.specs.declared.Edge.{Edge}
 use Rattle.graph.specs.declared.Cursor.{Cursor}
 use Rattle.graph.specs.declared.EdgeRead.{EdgeRead}
-use Rattle.graph.specs.declared.EdgeRead.the-variants.{Next, Fault}
+use Rattle.graph.specs.declared.EdgeRead.the-variants.{Next}
+use Rattle.graph.specs.declared.EdgeRead.the-variants as edgeRead
 use Rattle.graph.specs.declared.PlanWritten.{PlanWritten}
-use Rattle.graph.specs.declared.PlanWritten.the-variants.{Count, Rejected}
+use Rattle.graph.specs.declared.PlanWritten.the-variants.{Count}
+use Rattle.graph.specs.declared.PlanWritten.the-variants as planWritten
 use Rattle.graph.specs.Rows.{through}
 use Rattle.graph.specs.Plan.{past}
 use Rattle.graph.specs.Lists.{Fault as Found, none, fault, edgesOf, edgeRows, edgesFault, writeFault, edgeBytes, edgesBytes, bytesOf}
@@ -32,11 +34,11 @@ falls c e = ltb (e .tail) (c .tail) || (eqb (e .tail) (c .tail) && ltb (e .head)
 -- the edge number i through its rows, and the cursor past its bytes
 unfoldable pub edgeMeasured : ℕ → Cursor → ℕ → Edge → EdgeRead
 edgeMeasured v c i e =
-    through (edgeRows v (c .tail) (c .least) e) (λ n. Fault n i) (Next e (past e (c .at + length (edgeBytes (c .tail) e))))
+    through (edgeRows v (c .tail) (c .least) e) (λ n. edgeRead.Refused n i) (Next e (past e (c .at + length (edgeBytes (c .tail) e))))
 
 -- a refusal, or else the count of bytes
 unfoldable pub measured : Found → ℕ → PlanWritten
-measured (fault n p) count = Rejected n p
+measured (fault n p) count = planWritten.Refused n p
 measured none count = Count count
 
 -- the edges from number i on through their rows, and the count of bytes, where the cursor stands before them

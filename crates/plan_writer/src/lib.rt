@@ -44,16 +44,16 @@ fn measure_edge(vertices: u32, cursor: Cursor, i: usize, edge: Edge) -> EdgeRead
     ensures { λ r. ⌜ r ≡ edgeMeasured vertices cursor i edge ⌝ }
 {
     if vertices <= edge.tail {
-        return EdgeRead::Fault(4, i);
+        return EdgeRead::Refused(4, i);
     }
     if vertices <= edge.head {
-        return EdgeRead::Fault(4, i);
+        return EdgeRead::Refused(4, i);
     }
     if falls_behind(cursor, edge) {
-        return EdgeRead::Fault(6, i);
+        return EdgeRead::Refused(6, i);
     }
     if MAX_COST < edge.cost {
-        return EdgeRead::Fault(5, i);
+        return EdgeRead::Refused(5, i);
     }
     let rise = leb128_writer::plan_number_len(edge.tail - cursor.tail);
     let size = rise
@@ -86,8 +86,8 @@ fn measure_edges(
             EdgeRead::Next(_, past) => {
                 cursor = past;
             }
-            EdgeRead::Fault(n, p) => {
-                return PlanWritten::Rejected(n, p);
+            EdgeRead::Refused(n, p) => {
+                return PlanWritten::Refused(n, p);
             }
         }
         i += 1;
@@ -100,19 +100,19 @@ fn measure(vertices: u32, tails: &[u32], heads: &[u32], costs: &[u32]) -> PlanWr
     ensures { λ r. ⌜ r ≡ planMeasured vertices (now (tails .entry)) (now (heads .entry)) (now (costs .entry)) ⌝ }
 {
     if vertices == 0 {
-        return PlanWritten::Rejected(2, 0);
+        return PlanWritten::Refused(2, 0);
     }
     if MAX_VERTICES < vertices {
-        return PlanWritten::Rejected(2, 0);
+        return PlanWritten::Refused(2, 0);
     }
     if (MAX_EDGES as usize) < tails.len() {
-        return PlanWritten::Rejected(3, 0);
+        return PlanWritten::Refused(3, 0);
     }
     if heads.len() != tails.len() {
-        return PlanWritten::Rejected(3, 0);
+        return PlanWritten::Refused(3, 0);
     }
     if costs.len() != tails.len() {
-        return PlanWritten::Rejected(3, 0);
+        return PlanWritten::Refused(3, 0);
     }
     let count = tails.len() as u32;
     let start = leb128_writer::plan_number_len(vertices) + leb128_writer::plan_number_len(count);
@@ -187,7 +187,7 @@ pub fn write(
         return measured;
     };
     if out.len() < size {
-        return PlanWritten::Rejected(11, 0);
+        return PlanWritten::Refused(11, 0);
     }
     lay(vertices, tails, heads, costs, out);
     PlanWritten::Count(size)

@@ -7,7 +7,8 @@ use lib.ListN.{length, take}
 use lib.Seq.{take-nil}
 use Rattle.graph.specs.declared.Edge.{Edge}
 use Rattle.graph.specs.declared.Header.{Header}
-use Rattle.graph.specs.declared.Header.the-variants.{Counts, HeaderFault}
+use Rattle.graph.specs.declared.Header.the-variants.{Counts}
+use Rattle.graph.specs.declared.Header.the-variants as headerRead
 use Rattle.graph.specs.Plan.{Decoded, accepted, refused, firstAt, header, afterHeader, decode}
 use Rattle.graph.specs.Lists.{none, fault, over, edgesIn}
 use Rattle.graph.proofs.Plan as laws
@@ -41,7 +42,7 @@ use Rattle.planner.proofs.Jobs.{Accepted, accepts, job-size, job-edges,
 -- ---- the header of a plan that is accepted
 
 module _ (s : List ℕ) (v : ℕ) (es : List Edge) (d : decode s ≡ accepted v es) where
-  pub header-there : (n p : ℕ) → header s ≡ HeaderFault n p → ⊥
+  pub header-there : (n p : ℕ) → header s ≡ headerRead.Refused n p → ⊥
   unfolding decode afterHeader
   header-there n p h = accepted≢refused (sym (ap (afterHeader s) h) ∙ d)
 
@@ -64,7 +65,7 @@ module _ (c : Call) (z : Size) (q : Query) (bytes anchor guides schedule route l
   abbrev job : Job
   job = jobOf c
 
-  pub no-fault : (n p : ℕ) → header bytes ≡ HeaderFault n p → ⊥
+  pub no-fault : (n p : ℕ) → header bytes ≡ headerRead.Refused n p → ⊥
   no-fault n p h = header-there (c .bytes) (plan .v) (plan .es) (plan .plan) n p (ap header (sym (l .bytes-is)) ∙ h)
 
   module _ (w m at : ℕ) (h : header bytes ≡ Counts w m at) where
@@ -199,7 +200,7 @@ module _ (c : Call) where
 module _ (z : Size) (q : Query) (bytes anchor guides schedule route log work : List ℕ) where
   -- the plan has a header
   pub answers-none :
-      {r : Answer} {route′ log′ work′ : List ℕ} (budget n p : ℕ) → header bytes ≡ HeaderFault n p →
+      {r : Answer} {route′ log′ work′ : List ℕ} (budget n p : ℕ) → header bytes ≡ headerRead.Refused n p →
       Answers z q bytes anchor guides schedule budget route log work r route′ log′ work′
   answers-none budget n p h =
       record { answered = λ c l e. absurd (no-fault c z q bytes anchor guides schedule route log work l n p h) }

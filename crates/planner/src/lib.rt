@@ -45,7 +45,7 @@ pub fn plan(
 ) -> Answer
     ensures { λ r. ⌜ Planned (callOf (now (bytes .entry)) start goal (now (anchor .entry)) (now (guides .entry)) «guide_count» (now (schedule .entry)) budget (now (route .entry)) (now (log .entry)) (now (work .entry))) r (now (route .exit)) (now (log .exit)) (now (work .exit)) ⌝ }
 {
-    let verdict = admission::fault(
+    let verdict = admission::decide(
         bytes,
         start,
         goal,

@@ -4,14 +4,14 @@ mod end_lines;
 mod lines;
 
 ghost use Rattle.search.specs.declared.Answer.the-variants.{Route, NoRoute, Unfinished, Refused};
-ghost use Rattle.job.specs.Texts.{Lent};
+ghost use Rattle.job.specs.Texts.{BenchSized};
 ghost use Rattle.printing.specs.Shown.{Shown, Refuses};
 use search::Answer;
 use search::Summary;
 
 // A route: the turn lines, the route line and the end line.
 fn put_route(out: &mut [u8], summary: Summary, route: &[u32], log: &[u32]) -> usize
-    requires { ⌜ Lent (now route) (now log) ⌝ }
+    requires { ⌜ BenchSized (now route) (now log) ⌝ }
     ensures { λ r. ⌜ Shown (Route summary) (now (route .entry)) (now (log .entry)) (now (out .entry)) r (now (out .exit)) ⌝ }
 {
     let turns = summary.expansions;
@@ -30,7 +30,7 @@ fn put_route(out: &mut [u8], summary: Summary, route: &[u32], log: &[u32]) -> us
 
 // No route: the turn lines, and the line that says so.
 fn put_no_route(out: &mut [u8], turns: u32, route: &[u32], log: &[u32]) -> usize
-    requires { ⌜ Lent (now route) (now log) ⌝ }
+    requires { ⌜ BenchSized (now route) (now log) ⌝ }
     ensures { λ r. ⌜ Shown (NoRoute turns) (now (route .entry)) (now (log .entry)) (now (out .entry)) r (now (out .exit)) ⌝ }
 {
     let at = lines::put_turn_lines(out, 0, log, turns as usize);
@@ -39,7 +39,7 @@ fn put_no_route(out: &mut [u8], turns: u32, route: &[u32], log: &[u32]) -> usize
 
 // Unfinished: the turn lines, and the line that says so.
 fn put_unfinished(out: &mut [u8], turns: u32, route: &[u32], log: &[u32]) -> usize
-    requires { ⌜ Lent (now route) (now log) ⌝ }
+    requires { ⌜ BenchSized (now route) (now log) ⌝ }
     ensures { λ r. ⌜ Shown (Unfinished turns) (now (route .entry)) (now (log .entry)) (now (out .entry)) r (now (out .exit)) ⌝ }
 {
     let at = lines::put_turn_lines(out, 0, log, turns as usize);
@@ -55,7 +55,7 @@ pub fn put_refused(out: &mut [u8], number: u32, position: usize) -> usize
 
 // The answer's text, with route and log memory after the call.
 pub fn put_answer(out: &mut [u8], answer: Answer, route: &[u32], log: &[u32]) -> usize
-    requires { ⌜ Lent (now route) (now log) ⌝ }
+    requires { ⌜ BenchSized (now route) (now log) ⌝ }
     ensures { λ r. ⌜ Shown answer (now (route .entry)) (now (log .entry)) (now (out .entry)) r (now (out .exit)) ⌝ }
 {
     match answer {

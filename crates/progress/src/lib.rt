@@ -51,7 +51,7 @@ fn counted(more: bool, n: u32) -> u32
 }
 
 // A round's end moves the record on, or a turn does. The incumbent costs `cost` after it.
-fn step(p: &mut Progress, guides: u32, ends: bool, cost: u64)
+fn move_on(p: &mut Progress, guides: u32, ends: bool, cost: u64)
     requires { ⌜ cond ends (now p .rounds) (now p .expansions) < maxCount ⌝ }
     ensures { λ _. ⌜ now (p .exit) ≡ moved ends guides cost (now (p .entry)) ⌝ }
 {
@@ -65,12 +65,12 @@ fn step(p: &mut Progress, guides: u32, ends: bool, cost: u64)
 }
 
 // The same by value.
-fn stepped(p: Progress, guides: u32, ends: bool, cost: u64) -> Progress
+fn moved_on(p: Progress, guides: u32, ends: bool, cost: u64) -> Progress
     requires { ⌜ cond ends (p .rounds) (p .expansions) < maxCount ⌝ }
     ensures { λ r. ⌜ r ≡ moved ends guides cost p ⌝ }
 {
     let mut q = p;
-    step(&mut q, guides, ends, cost);
+    move_on(&mut q, guides, ends, cost);
     q
 }
 
@@ -80,7 +80,7 @@ pub fn after_turn(guides: u32, p: Progress) -> Progress
     ensures { λ r. ⌜ r ≡ turned guides p ⌝ }
 {
     let cost = p.cost;
-    stepped(p, guides, false, cost)
+    moved_on(p, guides, false, cost)
 }
 
 // The record after a round's end, where the incumbent now has this cost.
@@ -88,5 +88,5 @@ pub fn after_round(guides: u32, cost: u64, p: Progress) -> Progress
     requires { ⌜ p .rounds < maxCount ⌝ }
     ensures { λ r. ⌜ r ≡ ended guides cost p ⌝ }
 {
-    stepped(p, guides, true, cost)
+    moved_on(p, guides, true, cost)
 }

@@ -11,8 +11,8 @@ read-requires c κs = search needs
 enum-known-front : tie.Need-enum-known-front
 enum-known-front c = search needs
 
-put-job-requires : tie.Need-put-job-requires
-put-job-requires c κs = sym (c .before .before .before .before .read .ensures) ∙ c .before .before .front .given .1
+plan-job-requires : tie.Need-plan-job-requires
+plan-job-requires c κs = sym (c .before .before .before .before .read .ensures) ∙ c .before .before .front .given .1
 
 enum-known-n : tie.Need-enum-known-n
 enum-known-n c = search needs
@@ -25,7 +25,7 @@ same-length c = search needs
 
 returns : tie.Need-returns
 unfolding benchText textOf
-returns c = rw (sym (c .before .before .before .before .before .before .before .read .ensures) ∙ c .before .before .before .before .before .front .given .1) (c .before .before .put-job .ensures)
+returns c = rw (sym (c .before .before .before .before .before .before .before .read .ensures) ∙ c .before .before .before .before .before .front .given .1) (c .before .before .plan-job .ensures)
 
 same-length-2 : tie.Need-same-length-2
 same-length-2 c = search needs
@@ -40,7 +40,7 @@ bench-text-spec =
     (tie.spec
     read-requires
     enum-known-front
-    put-job-requires
+    plan-job-requires
     enum-known-n
     put-refused-requires
     same-length

@@ -27,7 +27,7 @@ mul-past : tie.Need-mul-past
 mul-past c =
     let a = c .before .before .before .before .args in
     let h : a .vertices ≤ 256 = c .before .before .if1 .left in
-    record { fits = omega (arith, mul-le-mul-left (1 + a .front .guides) h) }
+    record { fits = omega (arith, mul-le-mul-left (1 + a .front .«guide_count») h) }
 
 past-requires : tie.Need-past-requires
 past-requires c κs = search needs

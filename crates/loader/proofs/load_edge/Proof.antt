@@ -9,11 +9,11 @@ use Rattle.loader.proofs.load_edge.Statement.{statement}
 use Rattle.loader.proofs.load_edge.Tie as tie
 use Rattle.loader.proofs.load_edge.Reads as reads
 use Rattle.loader.proofs.load_edge.Lts as lts
-use Rattle.plan_check.proofs.cursor.step.Reads as step-reads
+use Rattle.plan_check.proofs.cursor.next_edge.Reads as next-edge-reads
 use Rattle.loader.proofs.fill_first.Reads as fill-first-reads
 
-step-requires : tie.Need-step-requires
-step-requires c κs = search needs
+next-edge-requires : tie.Need-next-edge-requires
+next-edge-requires c κs = search needs
 
 enum-known-edge : tie.Need-enum-known-edge
 enum-known-edge c = search needs
@@ -24,7 +24,7 @@ enum-told c = search needs
 returns : tie.Need-returns
 returns c =
     let s = c .before .before .before .before .before in
-    loaded-none (s .args .z) (s .args .j) (s .args .work .now) (s .args .cursor) _ _ _ (sym (c .before .before .step .ensures) ∙ c .enum-told .given .1)
+    loaded-none (s .args .z) (s .args .j) (s .args .work .now) (s .args .cursor) _ _ _ (sym (c .before .before .next-edge .ensures) ∙ c .enum-told .given .1)
 
 cast-fill-first : tie.Need-cast-fill-first
 cast-fill-first c = search needs
@@ -42,7 +42,7 @@ fill-first-requires : tie.Need-fill-first-requires
 unfolding base
 fill-first-requires c κs =
     let s = c .before .before .before .before .before .before .before in
-    let q = sym (c .before .before .before .before .step .ensures) ∙ c .before .before .edge .given .1 in
+    let q = sym (c .before .before .before .before .next-edge .ensures) ∙ c .before .before .edge .given .1 in
     omega (arith, next-tail _ _ (s .args .cursor) _ _ q .vertex, s .pre .0)
 
 cast-h : tie.Need-cast-h
@@ -94,13 +94,13 @@ returns-2 : tie.Need-returns-2
 returns-2 c =
     let k = c .before .before .before .before .before in
     let s = k .before .before .before .before .before in
-    loaded-one (s .args .z) (s .args .j) (s .args .work .now) (s .args .cursor) _ _ _ _ (sym (k .before .before .step .ensures) ∙ k .edge .given .1) (c .before .before .fill-first .ensures)
+    loaded-one (s .args .z) (s .args .j) (s .args .work .now) (s .args .cursor) _ _ _ _ (sym (k .before .before .next-edge .ensures) ∙ k .edge .given .1) (c .before .before .fill-first .ensures)
 
 pub load-edge-spec : {M : Type 1} → statement M
 load-edge-spec =
     tie.close
     (tie.spec
-    step-requires
+    next-edge-requires
     enum-known-edge
     enum-told
     returns

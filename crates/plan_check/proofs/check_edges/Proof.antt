@@ -9,7 +9,7 @@ use Rattle.plan_check.proofs.check_edges.Tie as tie
 use Rattle.plan_check.proofs.check_edges.Reads as reads
 use Rattle.plan_check.proofs.check_edges.Lts as lts
 use Rattle.plan_check.proofs.cursor.first.Reads as first-reads
-use Rattle.plan_check.proofs.cursor.step.Reads as step-reads
+use Rattle.plan_check.proofs.cursor.next_edge.Reads as next-edge-reads
 use Rattle.plan_check.proofs.edge_fault.Reads as edge-fault-reads
 
 abbrev Inv-loop : tie.InvT-loop
@@ -24,8 +24,8 @@ first-requires c κs = search needs
 loop-holds : tie.Need-loop-holds Inv-loop μ-loop
 loop-holds c = rw (c .first .ensures) (told-first _ _ _ _)
 
-step-requires : tie.Need-step-requires Inv-loop μ-loop
-step-requires c κs = search needs
+next-edge-requires : tie.Need-next-edge-requires Inv-loop μ-loop
+next-edge-requires c κs = search needs
 
 enum-known-read : tie.Need-enum-known-read Inv-loop μ-loop
 enum-known-read c = search needs
@@ -39,7 +39,7 @@ edge-fault-requires c κs = search needs
 returns : tie.Need-returns Inv-loop μ-loop
 returns c =
     told-fault _ _ _ _ _ _ (c .before .before .before .before .loop-test .taken) (c .before .before .before .before .before .loop .inv) _ _ _ _ (c .edge-fault .ensures) (c .before .enum-told .given .1)
-    (c .before .before .before .step .ensures)
+    (c .before .before .before .next-edge .ensures)
 
 sub-left : tie.Need-sub-left Inv-loop μ-loop
 sub-left c = omega arith
@@ -50,7 +50,7 @@ loop-less c = omega arith
 loop-again : tie.Need-loop-again Inv-loop μ-loop
 loop-again c =
     told-next _ _ _ _ _ _ (c .before .before .before .before .loop-test .taken) (c .before .before .before .before .before .loop .inv) _ _
-    (sym (c .before .before .before .step .ensures) ∙ c .before .read .given .1)
+    (sym (c .before .before .before .next-edge .ensures) ∙ c .before .read .given .1)
 
 returns-2 : tie.Need-returns-2 Inv-loop μ-loop
 returns-2 c = told-over _ _ _ _ _ (c .before .before .loop .cursor) (omega (arith, c .before .loop-test)) (c .before .before .loop .inv) (c .if1 .taken)
@@ -66,7 +66,7 @@ check-edges-spec =
     μ-loop
     first-requires
     loop-holds
-    step-requires
+    next-edge-requires
     enum-known-read
     enum-told
     edge-fault-requires

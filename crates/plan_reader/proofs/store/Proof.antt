@@ -8,10 +8,10 @@ use Rattle.plan_reader.proofs.store.Statement.{statement}
 use Rattle.plan_reader.proofs.store.Tie as tie
 use Rattle.plan_reader.proofs.store.Reads as reads
 use Rattle.plan_reader.proofs.store.Lts as lts
-use Rattle.plan_reader.proofs.checked.step_checked.Reads as step-checked-reads
+use Rattle.plan_reader.proofs.checked.next_edge.Reads as next-edge-reads
 
-step-checked-requires : tie.Need-step-checked-requires
-step-checked-requires c κs = c .before .before .before .before .pre .1 .1 .1
+next-edge-requires : tie.Need-next-edge-requires
+next-edge-requires c κs = c .before .before .before .before .pre .1 .1 .1
 
 enum-known-edge : tie.Need-enum-known-edge
 enum-known-edge c = search needs
@@ -21,7 +21,7 @@ enum-told c = search needs
 
 returns : tie.Need-returns
 returns c =
-    let q = sym (c .before .before .step-checked .ensures) ∙ c .enum-told .given .1 in
+    let q = sym (c .before .before .next-edge .ensures) ∙ c .enum-told .given .1 in
     let a = c .before .before .before .before .before .before .before .args in
     (cursor-kept (a .cursor) tailOf (a .i) [] _ _ _ q, (list-kept (a .cursor) tailOf (a .i) _ _ _ _ q, (list-kept (a .cursor) headOf (a .i) _ _ _ _ q, list-kept (a .cursor) costOf (a .i) _ _ _ _ q)))
 
@@ -54,7 +54,7 @@ same-length-3 c = search needs
 
 returns-2 : tie.Need-returns-2
 returns-2 c =
-    let q = sym (c .before .before .before .step-checked .ensures) ∙ c .before .edge .given .1 in
+    let q = sym (c .before .before .before .next-edge .ensures) ∙ c .before .edge .given .1 in
     let a = c .before .before .before .before .before .before .before .before .args in
     (cursor-moved (a .cursor) tailOf (a .i) [] _ _ _ q, (list-stored (a .cursor) tailOf (a .i) _ _ _ _ q, (list-stored (a .cursor) headOf (a .i) _ _ _ _ q, list-stored (a .cursor) costOf (a .i) _ _ _ _ q)))
 
@@ -62,7 +62,7 @@ pub store-spec : {M : Type 1} → statement M
 store-spec =
     tie.close
     (tie.spec
-    step-checked-requires
+    next-edge-requires
     enum-known-edge
     enum-told
     returns

@@ -6,13 +6,13 @@ use Rattle.progress.proofs.after_round.Statement.{statement}
 use Rattle.progress.proofs.after_round.Tie as tie
 use Rattle.progress.proofs.after_round.Reads as reads
 use Rattle.progress.proofs.after_round.Lts as lts
-use Rattle.progress.proofs.stepped.Reads as stepped-reads
+use Rattle.progress.proofs.moved_on.Reads as moved-on-reads
 
-stepped-requires : tie.Need-stepped-requires
-stepped-requires c κs = search needs
+moved-on-requires : tie.Need-moved-on-requires
+moved-on-requires c κs = search needs
 
 returns : tie.Need-returns
-returns c = c .stepped .ensures ∙ moved-round _ _ _
+returns c = c .moved-on .ensures ∙ moved-round _ _ _
 
 pub after-round-spec : {M : Type 1} → statement M
-after-round-spec = tie.close (tie.spec stepped-requires returns)
+after-round-spec = tie.close (tie.spec moved-on-requires returns)

@@ -6,13 +6,13 @@ use Rattle.progress.proofs.after_turn.Statement.{statement}
 use Rattle.progress.proofs.after_turn.Tie as tie
 use Rattle.progress.proofs.after_turn.Reads as reads
 use Rattle.progress.proofs.after_turn.Lts as lts
-use Rattle.progress.proofs.stepped.Reads as stepped-reads
+use Rattle.progress.proofs.moved_on.Reads as moved-on-reads
 
-stepped-requires : tie.Need-stepped-requires
-stepped-requires c κs = search needs
+moved-on-requires : tie.Need-moved-on-requires
+moved-on-requires c κs = search needs
 
 returns : tie.Need-returns
-returns c = c .stepped .ensures ∙ moved-turn _ _
+returns c = c .moved-on .ensures ∙ moved-turn _ _
 
 pub after-turn-spec : {M : Type 1} → statement M
-after-turn-spec = tie.close (tie.spec stepped-requires returns)
+after-turn-spec = tie.close (tie.spec moved-on-requires returns)

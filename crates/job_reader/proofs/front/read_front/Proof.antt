@@ -23,12 +23,12 @@ returns : tie.Need-returns
 unfolding front
 returns c = follows-none _ _ _ (c .before .before .read-job-number .ensures) _ (c .enum-told .given .1)
 
-cast-end : tie.Need-cast-end
-cast-end c = search needs
+cast-plan-end : tie.Need-cast-plan-end
+cast-plan-end c = search needs
 
-add-end : tie.Need-add-end
+add-plan-end : tie.Need-add-plan-end
 unfolding jobGroups
-add-end c = record { fits = omega (arith, value-within _ _ _ _ _ (sym (c .before .before .before .read-job-number .ensures) ∙ c .before .size .given .1) .few) }
+add-plan-end c = record { fits = omega (arith, value-within _ _ _ _ _ (sym (c .before .before .before .read-job-number .ensures) ∙ c .before .size .given .1) .few) }
 
 returns-2 : tie.Need-returns-2
 unfolding front
@@ -49,8 +49,8 @@ read-front-spec =
     enum-known-size
     enum-told
     returns
-    cast-end
-    add-end
+    cast-plan-end
+    add-plan-end
     returns-2
     read-ends-requires
     returns-3)

@@ -2,7 +2,7 @@
 ghost use mathlib.Core.Path.{_≡_};
 ghost use Rattle.job.specs.declared.JobRead.the-variants.{Accepted};
 ghost use Rattle.job.specs.Reading.{jobRead};
-ghost use Rattle.job.specs.Asked.{callWith, callOf};
+ghost use Rattle.job.specs.Asked.{callWith, callAsked};
 ghost use Rattle.job.specs.Printed.{callText};
 ghost use Rattle.job.specs.Texts.{Texts};
 ghost use Rattle.bench_text.specs.Stored.{Stored};
@@ -22,7 +22,7 @@ const LOG: usize = 8192;
 const WORK: usize = 5377;
 
 // The planner call, and what it hands over printed.
-fn put_call(
+fn plan_call(
     out: &mut [u8],
     plan: &[u8],
     front: Front,
@@ -41,7 +41,7 @@ fn put_call(
         front.goal,
         anchor,
         sheets,
-        front.guides,
+        front.guide_count,
         schedule,
         front.budget,
         &mut route,
@@ -52,7 +52,7 @@ fn put_call(
 }
 
 // An accepted job, its factors and tables stored: the call is made.
-fn put_stored(
+fn plan_stored(
     out: &mut [u8],
     job: &[u8],
     front: Front,
@@ -61,28 +61,28 @@ fn put_stored(
     tables: &[u32],
 ) -> usize
     requires { ⌜ Stored (now job) front vertices (now schedule) (now tables) ⌝ }
-    ensures { λ r. ⌜ Texts (callText (callOf (now (job .entry)) front vertices)) (now (out .entry)) r (now (out .exit)) ⌝ }
+    ensures { λ r. ⌜ Texts (callText (callAsked (now (job .entry)) front vertices)) (now (out .entry)) r (now (out .exit)) ⌝ }
 {
-    let plan = front.plan;
-    let end = front.end;
+    let plan = front.plan_at;
+    let end = front.plan_end;
     let each = vertices as usize;
     let anchor = &tables[..each];
     let sheets = &tables[each..];
-    put_call(out, &job[plan..end], front, anchor, sheets, schedule)
+    plan_call(out, &job[plan..end], front, anchor, sheets, schedule)
 }
 
 // An accepted job: its factors and tables are stored, and what follows.
-pub fn put_job(out: &mut [u8], job: &[u8], front: Front, vertices: u32) -> usize
+pub fn plan_job(out: &mut [u8], job: &[u8], front: Front, vertices: u32) -> usize
     requires { ⌜ jobRead (now job) ≡ Accepted front vertices ⌝ }
-    ensures { λ r. ⌜ Texts (callText (callOf (now (job .entry)) front vertices)) (now (out .entry)) r (now (out .exit)) ⌝ }
+    ensures { λ r. ⌜ Texts (callText (callAsked (now (job .entry)) front vertices)) (now (out .entry)) r (now (out .exit)) ⌝ }
 {
-    let factors = 2 * front.rounds as usize;
-    let all = (1 + front.guides as usize) * vertices as usize;
+    let factors = 2 * front.round_count as usize;
+    let all = (1 + front.guide_count as usize) * vertices as usize;
     let mut schedule = [0u32; FACTORS];
     let mut tables = [0u32; TABLES];
-    storing::store(job, front.factors, factors, &mut schedule);
-    storing::store(job, front.tables, all, &mut tables);
-    put_stored(
+    storing::store(job, front.factors_at, factors, &mut schedule);
+    storing::store(job, front.tables_at, all, &mut tables);
+    plan_stored(
         out,
         job,
         front,

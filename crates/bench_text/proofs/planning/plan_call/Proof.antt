@@ -1,9 +1,9 @@
--- `put_call` meets its contract: the call, then its text. Assumes nothing.
+-- `plan_call` meets its contract: the call, then its text. Assumes nothing.
 use Rattle.job.specs.Asked.{zeros, callWith}
 use Rattle.bench_text.proofs.Calls.{handed-text}
 use borrow.Author.Needs.{needs}
-use Rattle.bench_text.proofs.asked.put_call.Statement.{statement}
-use Rattle.bench_text.proofs.asked.put_call.Tie as tie
+use Rattle.bench_text.proofs.planning.plan_call.Statement.{statement}
+use Rattle.bench_text.proofs.planning.plan_call.Tie as tie
 
 slice-aggregate-plan : tie.Need-slice-aggregate-plan
 slice-aggregate-plan c = search needs
@@ -35,8 +35,8 @@ returns c =
     let h = c .before .before .before .before .before .before .before .before .before .plan .ensures in
     handed-text _ _ _ _ (h .answers) (h .route-is) (h .log-is) (c .before .before .put-answer .ensures)
 
-pub put-call-spec : {M : Type 1} → statement M
-put-call-spec =
+pub plan-call-spec : {M : Type 1} → statement M
+plan-call-spec =
     tie.close
     (tie.spec
     slice-aggregate-plan

@@ -1,12 +1,12 @@
--- `step` meets its contract: its three numbers one after the other. Assumes nothing.
+-- `next_edge` meets its contract: its three numbers one after the other. Assumes nothing.
 use mathlib.Core.Path.{sym, _∙_}
 use native.Mathlib.Omega.{arith}
 use Rattle.plan_check.proofs.NextEdge.{taken-tail, taken-head, step-tail, step-head, step-cost, step-edge}
 use borrow.Author.Needs.{needs}
-use Rattle.plan_check.proofs.cursor.step.Statement.{statement}
-use Rattle.plan_check.proofs.cursor.step.Tie as tie
-use Rattle.plan_check.proofs.cursor.step.Reads as reads
-use Rattle.plan_check.proofs.cursor.step.Lts as lts
+use Rattle.plan_check.proofs.cursor.next_edge.Statement.{statement}
+use Rattle.plan_check.proofs.cursor.next_edge.Tie as tie
+use Rattle.plan_check.proofs.cursor.next_edge.Reads as reads
+use Rattle.plan_check.proofs.cursor.next_edge.Lts as lts
 use Rattle.plan_check.proofs.cursor.fault.Reads as fault-reads
 use Rattle.plan_check.proofs.cursor.least_after.Reads as least-after-reads
 use Rattle.plan_check.proofs.number.take_cost.Reads as take-cost-reads
@@ -84,8 +84,8 @@ returns-4 c =
     (sym (c .before .before .before .before .before .before .before .take-head .ensures) ∙ c .before .before .before .before .before .head-read .given .1)
     (sym (c .before .before .before .take-cost .ensures) ∙ c .before .cost-read .given .1)
 
-pub step-spec : {M : Type 1} → statement M
-step-spec =
+pub next-edge-spec : {M : Type 1} → statement M
+next-edge-spec =
     tie.close
     (tie.spec
     take-tail-requires

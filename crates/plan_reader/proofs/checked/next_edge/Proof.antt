@@ -1,13 +1,13 @@
--- `step_checked` meets its contract: three numbers that pass their rows. Assumes nothing.
+-- `next_edge` meets its contract: three numbers that pass their rows. Assumes nothing.
 use mathlib.Core.Path.{sym, _∙_, refl}
 use native.Mathlib.Omega.{arith}
 use Rattle.plan_reader.proofs.Passing.{tail-there, tail-taken, head-there, head-taken, cost-there, cost-taken}
 use Rattle.plan_check.proofs.NextEdge.{taken-tail, taken-head, step-edge}
 use borrow.Author.Needs.{needs}
-use Rattle.plan_reader.proofs.checked.step_checked.Statement.{statement}
-use Rattle.plan_reader.proofs.checked.step_checked.Tie as tie
-use Rattle.plan_reader.proofs.checked.step_checked.Reads as reads
-use Rattle.plan_reader.proofs.checked.step_checked.Lts as lts
+use Rattle.plan_reader.proofs.checked.next_edge.Statement.{statement}
+use Rattle.plan_reader.proofs.checked.next_edge.Tie as tie
+use Rattle.plan_reader.proofs.checked.next_edge.Reads as reads
+use Rattle.plan_reader.proofs.checked.next_edge.Lts as lts
 use Rattle.leb128_reader.proofs.read_plan_number.Reads as read-plan-number-reads
 
 read-plan-number-requires : tie.Need-read-plan-number-requires
@@ -73,8 +73,8 @@ returns-4 c =
     step-edge _ _ _ _ _ _ _ _ _ _ (tail-taken _ _ _ h _ _ a) refl (head-taken _ _ _ h _ _ a _ _ b)
     (cost-taken _ _ _ h _ _ a _ _ b _ _ (sym (c .before .before .before .read-plan-number3 .ensures) ∙ c .before .cost .given .1))
 
-pub step-checked-spec : {M : Type 1} → statement M
-step-checked-spec =
+pub next-edge-spec : {M : Type 1} → statement M
+next-edge-spec =
     tie.close
     (tie.spec
     read-plan-number-requires

@@ -1,4 +1,4 @@
--- `step` meets its contract: a walk of its MIR, by hand. The borrow is opened, three fields are read and passed to covered functions, their results and the cost are stored, and the borrow is closed at the new record.
+-- `move_on` meets its contract: a walk of its MIR, by hand. The borrow is opened, three fields are read and passed to covered functions, their results and the cost are stored, and the borrow is closed at the new record.
 -- Of `turn_after` and `counted` it knows their contracts alone.
 -- Assumes nothing.
 use mathlib.Core.Path.{_≡_, refl, ap}
@@ -53,15 +53,15 @@ use Rattle.progress.proofs.counted as counts
 use Rattle.progress.proofs.counted.Symbol as counts-def
 use Rattle.progress.proofs.counted.Symbol.{name as #progress·counted}
 use Rattle.progress.proofs.counted.Met as counts-thm
-use Rattle.progress.proofs.step.Key.{name as #progress·step}
-use Rattle.progress.proofs.step as step
-use Rattle.progress.proofs.step.Statement as stated
-use Rattle.progress.proofs.step.Code as code
+use Rattle.progress.proofs.move_on.Key.{name as #progress·move-on}
+use Rattle.progress.proofs.move_on as move-on
+use Rattle.progress.proofs.move_on.Statement as stated
+use Rattle.progress.proofs.move_on.Code as code
 
 abbrev Arg : Type 0
 Arg = RefT Progress × (ℕ × (Bool × (ℕ × Unit {0})))
 
-abbrev stayed : Stays (step.ended .signature .params) (step.ended .kept)
+abbrev stayed : Stays (move-on.ended .signature .params) (move-on.ended .kept)
 stayed = (stay-ref (0 ∷ []) tt (plain (λ _. T.the-row)), (stay-none (λ _. u32) yes, (stay-none (λ _. bool) yes, (stay-none (λ _. u64) yes, tt))))
 
 module _ {M : Type 1} (𝓤 : URA M) (H : Heap 𝓤) (A : Atoms 𝓤) (mem′ : Memory → SProp 𝓤) (run : Routine → Fun 𝓤) where
@@ -110,12 +110,12 @@ module _ {M : Type 1} (𝓤 : URA M) (H : Heap 𝓤) (A : Atoms 𝓤) (W : Given
   made r₁ r₂ r₃ f₁ f₂ f₃ = LL.owes T.the-type T′.the-laws (h′ r₁ r₂ r₃) ((refl, f₁), ((refl, f₂), ((refl, f₃), ((refl, c-fits), tt))))
 
   abbrev Post : Val → SProp 𝓤
-  Post = walkOf 𝓤 H A step.ended stayed (step.clauses 𝓤 H A at-mem run) .post (((κ, tt), (q, tt), tt, x, at), tt)
+  Post = walkOf 𝓤 H A move-on.ended stayed (move-on.clauses 𝓤 H A at-mem run) .post (((κ, tt), (q, tt), tt, x, at), tt)
 
   exits : (r₁ r₂ r₃ : ℕ) → h′ r₁ r₂ r₃ ≡ moved e n c h → ent 𝓤 (sep 𝓤 (A .obs γ (T.the-row .coded .code (h′ r₁ r₂ r₃))) (sep 𝓤 (A .bor κ (Body (mem T.the-row) b o γ)) (A .lft κ q))) (Post vunit)
   exits r₁ r₂ r₃ p =
       qed W (‵ (fobs γ (T.the-row .coded .code (h′ r₁ r₂ r₃))) ∷ ‵ (fbor κ (Body (mem T.the-row) b o γ)) ∷ ‵ (flft κ q) ∷ []) ∵
-      suffices ! _ (ends-at 𝓤 H A step.ended stayed (step.clauses 𝓤 H A at-mem run) W (((κ, tt), (q, tt), tt, x, at), tt) vunit tt (h′ r₁ r₂ r₃, (tt, (tt, (tt, tt)))) (tt, (tt, (tt, (tt, tt))))) $ says ! p $ nothing ! $ move ! (3 ∷ 0 ∷ []) $ join ! $
+      suffices ! _ (ends-at 𝓤 H A move-on.ended stayed (move-on.clauses 𝓤 H A at-mem run) W (((κ, tt), (q, tt), tt, x, at), tt) vunit tt (h′ r₁ r₂ r₃, (tt, (tt, (tt, tt)))) (tt, (tt, (tt, (tt, tt))))) $ says ! p $ nothing ! $ move ! (3 ∷ 0 ∷ []) $ join ! $
       frame ! $ feqI ! (List Val) (vptr b o ∷ []) (vptr b o ∷ []) refl $ fjoin3 ! $ nothing ! $ owned ! u64 (Is u64) (uint-makes 𝓤 H A W w64) c _ (refl, c-fits) $ fjoin ! $ owned ! bool (Is bool) (bool-makes 𝓤 H A W) e _ refl $ fjoin ! $
       owned ! u32 (Is u32) (uint-makes 𝓤 H A W w32) n _ (refl, n-fits) $ fjoin ! $ move ! (1 ∷ 0 ∷ []) $ fjoin ! $ feqI ! (List Val) (vunit ∷ []) (vunit ∷ []) refl $ move ! (1 ∷ 0 ∷ []) $ done !
 
@@ -137,7 +137,7 @@ module _ {M : Type 1} (𝓤 : URA M) (H : Heap 𝓤) (A : Atoms 𝓤) (W : Given
 
   module _ (C : Calls 𝓤 H) (Λ : Loops 𝓤 H) (fm : FmC 𝓤 H (W .laws) C) (known-turn : Triple 𝓤 (C #progress·turn-after) (Turn 𝓤 H A at-mem run)) (known-count : Triple 𝓤 (C #progress·counted) (Count 𝓤 H A at-mem run)) where
     walk : cond e (h .rounds) (h .expansions) < maxCount
-        → ent 𝓤 (onEntry 𝓤 H A step.signature (κ, tt) (q, tt) x at) (WpFn 𝓤 H C Λ code.function (vptr b o ∷ vint w32 n ∷ vbool e ∷ vint w64 c ∷ []) Post)
+        → ent 𝓤 (onEntry 𝓤 H A move-on.signature (κ, tt) (q, tt) x at) (WpFn 𝓤 H C Λ code.function (vptr b o ∷ vint w32 n ∷ vbool e ∷ vint w64 c ∷ []) Post)
     walk room =
         qed W ((‵ (flft κ q) ⊛ ‵ ftrue) ∷ ‵ (owns (MutRef (named 0) κ T.the-row ∷ u32 ∷ bool ∷ u64 ∷ []) x at) ∷ []) ∵ enter ! C Λ code.function (vptr b o ∷ vint w32 n ∷ vbool e ∷ vint w64 c ∷ []) _ $
         alloc1 ! (λ l₀. alloc1 ! (λ l₁. alloc1 ! (λ l₂. alloc1 ! (λ l₃. alloc1 ! (λ l₄. alloc1 ! (λ l₅. alloc1 ! (λ l₆. alloc1 ! (λ l₇. alloc1 ! (λ l₈. alloc1 ! (λ l₉. alloc0 ! $ params1 ! $
@@ -184,29 +184,29 @@ module _ {M : Type 1} (𝓤 : URA M) (H : Heap 𝓤) (A : Atoms 𝓤) (W : Given
         keep ! (0 ∷ 1 ∷ 2 ∷ []) $ by ! (exits r₁ r₂ r₃ (is-moved h e n c r₁ r₂ r₃ e₁ e₂ e₃))))))))))))))))))))))))))
 
 module _ {M : Type 1} (𝓤 : URA M) (H : Heap 𝓤) (A : Atoms 𝓤) (W : Given 𝓤 H A) (mem′ : Memory → SProp 𝓤) (run : Routine → Fun 𝓤) where
-  step-walks : (C : Calls 𝓤 H) (Λ : Loops 𝓤 H) → FmC 𝓤 H (W .laws) C → Triple 𝓤 (C #progress·turn-after) (Turn 𝓤 H A mem′ run) → Triple 𝓤 (C #progress·counted) (Count 𝓤 H A mem′ run)
-      → Walks 𝓤 H A step.ended stayed (WpFn 𝓤 H C Λ code.function) (step.clauses 𝓤 H A mem′ run)
-  step-walks C Λ fm known-turn known-count =
-      walked 𝓤 H A step.ended stayed (step.clauses 𝓤 H A mem′ run) (WpFn 𝓤 H C Λ code.function) (λ κs. (ptr-vals, (uint-vals w32, (bool-vals, (uint-vals w64, tt))))) (λ κs. (mut-tells (named 0) (κs .0) T.the-row, (uint-tells w32, (bool-tells, (uint-tells w64, tt)))))
+  move-on-walks : (C : Calls 𝓤 H) (Λ : Loops 𝓤 H) → FmC 𝓤 H (W .laws) C → Triple 𝓤 (C #progress·turn-after) (Turn 𝓤 H A mem′ run) → Triple 𝓤 (C #progress·counted) (Count 𝓤 H A mem′ run)
+      → Walks 𝓤 H A move-on.ended stayed (WpFn 𝓤 H C Λ code.function) (move-on.clauses 𝓤 H A mem′ run)
+  move-on-walks C Λ fm known-turn known-count =
+      walked 𝓤 H A move-on.ended stayed (move-on.clauses 𝓤 H A mem′ run) (WpFn 𝓤 H C Λ code.function) (λ κs. (ptr-vals, (uint-vals w32, (bool-vals, (uint-vals w64, tt))))) (λ κs. (mut-tells (named 0) (κs .0) T.the-row, (uint-tells w32, (bool-tells, (uint-tells w64, tt)))))
       (λ κs qs bounds a _ are. needs 𝓤 (cond (a .1 .1 .0) (a .0 .now .rounds) (a .0 .now .expansions) < maxCount) _
       (walk 𝓤 H A W mem′ run (κs .0) (qs .0) (a .0 .ptr .0) (a .0 .ptr .1) (a .0 .name) (a .0 .now) (a .1 .0) (a .1 .1 .0) (a .1 .1 .1 .0) (are .1 .0 .1) (are .1 .1 .1 .0 .1) C Λ fm known-turn known-count))
 
-  goes : AllGo 𝓤 H A W 1 (step.signature .params) (step.ended .kept) stayed
+  goes : AllGo 𝓤 H A W 1 (move-on.signature .params) (move-on.ended .kept) stayed
   goes =
       (goes-ref 𝓤 H A W 1 0 tt (plain (λ _. T.the-row)), (goes-none 𝓤 H A W 1 (λ _. u32) yes (λ κs x f. refl), (goes-none 𝓤 H A W 1 (λ _. bool) yes (λ κs x f. refl), (goes-none 𝓤 H A W 1 (λ _. u64) yes (λ κs x f. refl), tt))))
 
-step-meets : {M : Type 1} (𝓤 : URA M) (H : Heap 𝓤) (A : Atoms 𝓤) → Given 𝓤 H A → (mem′ : Memory → SProp 𝓤) (run : Routine → Fun 𝓤) (𝓣 : Tables 𝓤 H)
+move-on-meets : {M : Type 1} (𝓤 : URA M) (H : Heap 𝓤) (A : Atoms 𝓤) → Given 𝓤 H A → (mem′ : Memory → SProp 𝓤) (run : Routine → Fun 𝓤) (𝓣 : Tables 𝓤 H)
     → Triple 𝓤 (𝓣 .C #progress·turn-after) (Turn 𝓤 H A mem′ run) → Triple 𝓤 (𝓣 .C #progress·counted) (Count 𝓤 H A mem′ run)
-    → Meets 𝓤 H A step.signature (WpFn 𝓤 H (𝓣 .C) (𝓣 .Λ) code.function) (step.spec 𝓤 H A mem′ run)
-step-meets 𝓤 H A W mem′ run 𝓣 known-turn known-count =
-    walk-meets 𝓤 H A step.ended stayed W (goes 𝓤 H A W mem′ run) (step.clauses 𝓤 H A mem′ run) (WpFn 𝓤 H (𝓣 .C) (𝓣 .Λ) code.function) (WpFn-mono 𝓤 H (W .laws) 𝓣 code.function)
-    (step-walks 𝓤 H A W mem′ run (𝓣 .C) (𝓣 .Λ) (fmOf 𝓤 H (W .laws) 𝓣) known-turn known-count)
+    → Meets 𝓤 H A move-on.signature (WpFn 𝓤 H (𝓣 .C) (𝓣 .Λ) code.function) (move-on.spec 𝓤 H A mem′ run)
+move-on-meets 𝓤 H A W mem′ run 𝓣 known-turn known-count =
+    walk-meets 𝓤 H A move-on.ended stayed W (goes 𝓤 H A W mem′ run) (move-on.clauses 𝓤 H A mem′ run) (WpFn 𝓤 H (𝓣 .C) (𝓣 .Λ) code.function) (WpFn-mono 𝓤 H (W .laws) 𝓣 code.function)
+    (move-on-walks 𝓤 H A W mem′ run (𝓣 .C) (𝓣 .Λ) (fmOf 𝓤 H (W .laws) 𝓣) known-turn known-count)
 
-pub step-spec : {M : Type 1} → stated.statement M
+pub move-on-spec : {M : Type 1} → stated.statement M
 unfolding code.routine tablesOf
-step-spec 𝓤 H 𝓜 𝓖 𝓡 =
-    entered 𝓤 H (tripleOf 𝓤 H (𝓖 .A) step.signature (step.spec 𝓤 H (𝓖 .A) (𝓜 .mem) (𝓡 .run)))
-    (tables 𝓤 H 𝓜 𝓡 code.env .C) (tables 𝓤 H 𝓜 𝓡 code.env .Λ) #progress·step code.function (code.unfolded 𝓤 H 𝓜 𝓡)
-    (step-meets 𝓤 H (𝓖 .A) (givenOf 𝓤 H 𝓜 𝓖) (𝓜 .mem) (𝓡 .run) (tablesOf 𝓤 H 𝓜 (tables 𝓤 H 𝓜 𝓡 code.env))
+move-on-spec 𝓤 H 𝓜 𝓖 𝓡 =
+    entered 𝓤 H (tripleOf 𝓤 H (𝓖 .A) move-on.signature (move-on.spec 𝓤 H (𝓖 .A) (𝓜 .mem) (𝓡 .run)))
+    (tables 𝓤 H 𝓜 𝓡 code.env .C) (tables 𝓤 H 𝓜 𝓡 code.env .Λ) #progress·move-on code.function (code.unfolded 𝓤 H 𝓜 𝓡)
+    (move-on-meets 𝓤 H (𝓖 .A) (givenOf 𝓤 H 𝓜 𝓖) (𝓜 .mem) (𝓡 .run) (tablesOf 𝓤 H 𝓜 (tables 𝓤 H 𝓜 𝓡 code.env))
     (cited 𝓤 H (Turn 𝓤 H (𝓖 .A) (𝓜 .mem) (𝓡 .run)) 𝓜 𝓡 code.env #progress·turn-after turn-after-def.routine code.calls-progress·turn-after (turn-after-thm.met 𝓤 H 𝓜 𝓖 𝓡))
     (cited 𝓤 H (Count 𝓤 H (𝓖 .A) (𝓜 .mem) (𝓡 .run)) 𝓜 𝓡 code.env #progress·counted counts-def.routine code.calls-progress·counted (counts-thm.met 𝓤 H 𝓜 𝓖 𝓡)))

@@ -1,9 +1,9 @@
--- `put_job` meets its contract: the factors and the tables stand at the arrays' fronts. Assumes nothing.
+-- `plan_job` meets its contract: the factors and the tables stand at the arrays' fronts. Assumes nothing.
 use native.Mathlib.Omega.{arith}
 use Rattle.bench_text.proofs.Calls.{factors-few, numbers-few, factors-stored, tables-stored}
 use borrow.Author.Needs.{needs}
-use Rattle.bench_text.proofs.asked.put_job.Statement.{statement}
-use Rattle.bench_text.proofs.asked.put_job.Tie as tie
+use Rattle.bench_text.proofs.planning.plan_job.Statement.{statement}
+use Rattle.bench_text.proofs.planning.plan_job.Tie as tie
 
 cast-factors : tie.Need-cast-factors
 cast-factors c = search needs
@@ -38,8 +38,8 @@ array-share-prefix-schedule c =
     let a = k .before .before .before .before .before .before in
     factors-stored (a .args .job .now) (a .args .front) (a .args .vertices) (a .pre) _ (k .store .ensures) .fits
 
-slice-aggregate-put-stored : tie.Need-slice-aggregate-put-stored
-slice-aggregate-put-stored c =
+slice-aggregate-plan-stored : tie.Need-slice-aggregate-plan-stored
+slice-aggregate-plan-stored c =
     let k = c .before .before .before .before .before .before in
     let a = k .before .before .before .before .before .before in
     factors-stored (a .args .job .now) (a .args .front) (a .args .vertices) (a .pre) _ (k .store .ensures) .size
@@ -50,14 +50,14 @@ array-share-prefix-tables c =
     let a = k .before .before .before .before .before .before .before .before .before in
     tables-stored (a .args .job .now) (a .args .front) (a .args .vertices) (a .pre) _ (k .store2 .ensures) .fits
 
-slice-aggregate-put-stored-2 : tie.Need-slice-aggregate-put-stored-2
-slice-aggregate-put-stored-2 c =
+slice-aggregate-plan-stored-2 : tie.Need-slice-aggregate-plan-stored-2
+slice-aggregate-plan-stored-2 c =
     let k = c .before .before .before .before in
     let a = k .before .before .before .before .before .before .before .before .before in
     tables-stored (a .args .job .now) (a .args .front) (a .args .vertices) (a .pre) _ (k .store2 .ensures) .size
 
-put-stored-requires : tie.Need-put-stored-requires
-put-stored-requires c κs =
+plan-stored-requires : tie.Need-plan-stored-requires
+plan-stored-requires c κs =
     let k = c .before .before .before .before .before .before .before in
     let a = k .before .before .before .before .before .before in
     record {
@@ -72,8 +72,8 @@ same-length c = search needs
 returns : tie.Need-returns
 returns c = search needs
 
-pub put-job-spec : {M : Type 1} → statement M
-put-job-spec =
+pub plan-job-spec : {M : Type 1} → statement M
+plan-job-spec =
     tie.close
     (tie.spec
     cast-factors
@@ -86,9 +86,9 @@ put-job-spec =
     slice-aggregate-store-2
     store-requires-2
     array-share-prefix-schedule
-    slice-aggregate-put-stored
+    slice-aggregate-plan-stored
     array-share-prefix-tables
-    slice-aggregate-put-stored-2
-    put-stored-requires
+    slice-aggregate-plan-stored-2
+    plan-stored-requires
     same-length
     returns)

@@ -1,5 +1,5 @@
--- `stepped` meets its contract: a walk of its MIR, by hand. The record is copied to a local, which is lent to `step` for a lifetime of the call, and is back at the last value that `step`'s contract names.
--- Of `step` it knows the contract alone.
+-- `moved_on` meets its contract: a walk of its MIR, by hand. The record is copied to a local, which is lent to `move_on` for a lifetime of the call, and is back at the last value that `move_on`'s contract names.
+-- Of `move_on` it knows the contract alone.
 -- Assumes nothing.
 use mathlib.Core.Path.{_≡_, refl, sym, ap, subst}
 use mathlib.Core.Bool.{Bool, cond}
@@ -45,20 +45,20 @@ use Rattle.search.specs.declared.Progress.{Progress}
 use Rattle.search.proofs.Progress as T
 use Rattle.search.proofs.Progress.Laws as T′
 use Rattle.progress.specs.Moved.{maxCount, moved}
-use Rattle.progress.proofs.step as step
-use Rattle.progress.proofs.step.Symbol as step-def
-use Rattle.progress.proofs.step.Symbol.{name as #progress·step}
-use Rattle.progress.proofs.step.Met as step-thm
-use Rattle.progress.proofs.stepped.Key.{name as #progress·stepped}
-use Rattle.progress.proofs.stepped as stepped
-use Rattle.progress.proofs.stepped.Statement as stated
-use Rattle.progress.proofs.stepped.Code as code
+use Rattle.progress.proofs.move_on as move-on
+use Rattle.progress.proofs.move_on.Symbol as move-on-def
+use Rattle.progress.proofs.move_on.Symbol.{name as #progress·move-on}
+use Rattle.progress.proofs.move_on.Met as move-on-thm
+use Rattle.progress.proofs.moved_on.Key.{name as #progress·moved-on}
+use Rattle.progress.proofs.moved_on as moved-on
+use Rattle.progress.proofs.moved_on.Statement as stated
+use Rattle.progress.proofs.moved_on.Code as code
 
-abbrev stayed : Stays (stepped.ended .signature .params) (stepped.ended .kept)
+abbrev stayed : Stays (moved-on.ended .signature .params) (moved-on.ended .kept)
 stayed = (stay-none (λ _. T.the-row) yes, (stay-none (λ _. u32) yes, (stay-none (λ _. bool) yes, (stay-none (λ _. u64) yes, tt))))
 
-abbrev Step : {M : Type 1} (𝓤 : URA M) (H : Heap 𝓤) (A : Atoms 𝓤) (mem′ : Memory → SProp 𝓤) (run : Routine → Fun 𝓤) → Contract 𝓤
-Step 𝓤 H A mem′ run = tripleOf 𝓤 H A step.signature (step.spec 𝓤 H A mem′ run)
+abbrev MoveOn : {M : Type 1} (𝓤 : URA M) (H : Heap 𝓤) (A : Atoms 𝓤) (mem′ : Memory → SProp 𝓤) (run : Routine → Fun 𝓤) → Contract 𝓤
+MoveOn 𝓤 H A mem′ run = tripleOf 𝓤 H A move-on.signature (move-on.spec 𝓤 H A mem′ run)
 
 -- a record's machine value
 abbrev mach : Progress → Val
@@ -90,31 +90,31 @@ module _ {M : Type 1} (𝓤 : URA M) (H : Heap 𝓤) (A : Atoms 𝓤) (W : Given
   at = (mach h ∷ [], (vint w32 n ∷ [], (vbool e ∷ [], (vint w64 c ∷ [], tt))))
 
   abbrev Post : Val → SProp 𝓤
-  Post = walkOf 𝓤 H A stepped.ended stayed (stepped.clauses 𝓤 H A at-mem run) .post ((tt, tt, tt, x, at), tt)
+  Post = walkOf 𝓤 H A moved-on.ended stayed (moved-on.clauses 𝓤 H A at-mem run) .post ((tt, tt, tt, x, at), tt)
 
   exits : (z : Progress) → Good z → z ≡ moved e n c h → ent 𝓤 (emp 𝓤) (Post (mach z))
   exits z gz p =
       qed W [] ∵
-      suffices ! _ (ends-at 𝓤 H A stepped.ended stayed (stepped.clauses 𝓤 H A at-mem run) W ((tt, tt, tt, x, at), tt) (mach z) z (tt, (tt, (tt, (tt, tt)))) (tt, (tt, (tt, (tt, tt))))) $ says ! p $
+      suffices ! _ (ends-at 𝓤 H A moved-on.ended stayed (moved-on.clauses 𝓤 H A at-mem run) W ((tt, tt, tt, x, at), tt) (mach z) z (tt, (tt, (tt, (tt, tt)))) (tt, (tt, (tt, (tt, tt))))) $ says ! p $
       owned ! T.the-row (Is T.the-row) ((LL.makes T.the-type T′.the-plain) 𝓤 H A) z (mach z ∷ []) gz $
       nothing ! $ owned ! u64 (Is u64) (uint-makes 𝓤 H A W w64) c _ (refl, c-fits) $ fjoin ! $ owned ! bool (Is bool) (bool-makes 𝓤 H A W) e _ refl $ fjoin ! $ owned ! u32 (Is u32) (uint-makes 𝓤 H A W w32) n _ (refl, n-fits) $ fjoin ! $
       owned ! T.the-row (Is T.the-row) ((LL.makes T.the-type T′.the-plain) 𝓤 H A) h (mach h ∷ []) g $ fjoin ! $ nothing ! $ done !
 
-  -- what `step`'s triple binds outside: the local at l, lent for the lifetime α under the name δ
+  -- what `move_on`'s triple binds outside: the local at l, lent for the lifetime α under the name δ
   abbrev r : ℕ → GName → RefT Progress
   r l δ = record { ptr = (l, 0); name = δ; now = h }
 
-  abbrev to-step : ℕ → ℕ → GName → Step 𝓤 H A at-mem run .Ghost
-  to-step α l δ = (((α ∷ [], tt), (fullShare, tt), tt, (r l δ, (n, (e, (c, tt)))), (vptr l 0 ∷ [], (vint w32 n ∷ [], (vbool e ∷ [], (vint w64 c ∷ [], tt))))), tt)
+  abbrev to-move-on : ℕ → ℕ → GName → MoveOn 𝓤 H A at-mem run .Ghost
+  to-move-on α l δ = (((α ∷ [], tt), (fullShare, tt), tt, (r l δ, (n, (e, (c, tt)))), (vptr l 0 ∷ [], (vint w32 n ∷ [], (vbool e ∷ [], (vint w64 c ∷ [], tt))))), tt)
 
-  goes : (α l : ℕ) (δ : GName) → ent 𝓤 (sep 𝓤 (A .lft (α ∷ []) fullShare) (sem 𝓤 H A (MutRef (named 0) (α ∷ []) T.the-row .own (r l δ) (vptr l 0 ∷ [])))) (Step 𝓤 H A at-mem run .pre (to-step α l δ))
+  goes : (α l : ℕ) (δ : GName) → ent 𝓤 (sep 𝓤 (A .lft (α ∷ []) fullShare) (sem 𝓤 H A (MutRef (named 0) (α ∷ []) T.the-row .own (r l δ) (vptr l 0 ∷ [])))) (MoveOn 𝓤 H A at-mem run .pre (to-move-on α l δ))
   goes α l δ =
       qed W (‵ (flft (α ∷ []) fullShare) ∷ ‵ (MutRef (named 0) (α ∷ []) T.the-row .own (r l δ) (vptr l 0 ∷ [])) ∷ []) ∵ says ! room $ nothing ! $ move ! (1 ∷ 0 ∷ []) $ join ! $
       nothing ! $ owned ! u64 (Is u64) (uint-makes 𝓤 H A W w64) c _ (refl, c-fits) $ join ! $ owned ! bool (Is bool) (bool-makes 𝓤 H A W) e _ refl $ join ! $ owned ! u32 (Is u32) (uint-makes 𝓤 H A W w32) n _ (refl, n-fits) $ join ! $
       move ! (2 ∷ 0 ∷ []) $ join ! $ move ! (1 ∷ 0 ∷ []) $ join ! $ done !
 
-  module _ (C : Calls 𝓤 H) (Λ : Loops 𝓤 H) (fm : FmC 𝓤 H (W .laws) C) (known : Triple 𝓤 (C #progress·step) (Step 𝓤 H A at-mem run)) where
-    walk : ent 𝓤 (onEntry 𝓤 H A stepped.signature tt tt x at) (WpFn 𝓤 H C Λ code.function (mach h ∷ vint w32 n ∷ vbool e ∷ vint w64 c ∷ []) Post)
+  module _ (C : Calls 𝓤 H) (Λ : Loops 𝓤 H) (fm : FmC 𝓤 H (W .laws) C) (known : Triple 𝓤 (C #progress·move-on) (MoveOn 𝓤 H A at-mem run)) where
+    walk : ent 𝓤 (onEntry 𝓤 H A moved-on.signature tt tt x at) (WpFn 𝓤 H C Λ code.function (mach h ∷ vint w32 n ∷ vbool e ∷ vint w64 c ∷ []) Post)
     unfolding partOf
     walk =
         qed W (‵ ftrue ∷ ‵ (owns (T.the-row ∷ u32 ∷ bool ∷ u64 ∷ []) x at) ∷ []) ∵ keep ! [] $ enter ! C Λ code.function (mach h ∷ vint w32 n ∷ vbool e ∷ vint w64 c ∷ []) _ $
@@ -126,13 +126,13 @@ module _ {M : Type 1} (𝓤 : URA M) (H : Heap 𝓤) (A : Atoms 𝓤) (W : Given
         -- the local is lent for a lifetime α of the call
         move ! (4 ∷ []) $ use1 W (‵ (partAt T.the-row fullShare h l₅ 0)) (lies-in 𝓤 H A W h l₅ g) $ lft-new ! tt (λ α. move ! (1 ∷ []) $
         use1 W (later (some (λ (δ : GName). ‵ (MutRef (named 0) (α ∷ []) T.the-row .own (r l₅ δ) (vptr l₅ 0 ∷ [])) ⊛ ‵ (flent (α ∷ []) (Body (mem T.the-row) l₅ 0 δ))))) (lends-ref 𝓤 H A W T.the-row (named 0) (α ∷ []) h l₅ 0) $ await ! tt $ pick ! (λ δ. split ! $
-        move ! (2 ∷ 0 ∷ []) $ use2 W (raw (Step 𝓤 H A at-mem run .pre (to-step α l₅ δ))) (goes α l₅ δ) $
-        -- [what `step` asks; the lender's part; _7; …; _6; …; …; _4; …; _3; …; _2; …; _1; …; room for _0; …]
-        calls-at ! fm (Step 𝓤 H A at-mem run) known (to-step α l₅ δ)
+        move ! (2 ∷ 0 ∷ []) $ use2 W (raw (MoveOn 𝓤 H A at-mem run .pre (to-move-on α l₅ δ))) (goes α l₅ δ) $
+        -- [what `move_on` asks; the lender's part; _7; …; _6; …; …; _4; …; _3; …; _2; …; _1; …; room for _0; …]
+        calls-at ! fm (MoveOn 𝓤 H A at-mem run) known (to-move-on α l₅ δ)
         (and-then ! (load ! (from ! (stop !)) (look ! 2 refl)) (and-then ! (load ! (from ! (stop !)) (look ! 11 refl)) (and-then ! (load ! (from ! (stop !)) (look ! 9 refl)) (and-then ! (load ! (from ! (stop !)) (look ! 7 refl)) (no-more !))))) (λ v.
-        use1 W (later (some (λ (u : Unit {0}). ((‵ (flft (α ∷ []) fullShare) ⊛ ‵ ftrue) ⊛ ‵ (Nothing .own u (v ∷ []))) ⊛ raw (ensured 𝓤 H A step.ended (step.clauses 𝓤 H A at-mem run) (α ∷ [], tt) (r l₅ δ, (n, (e, (c, tt)))) tt u)))) (id⊢ 𝓤 _) $ await ! tt $ pick ! (λ u.
-        -- what `step` ensures, at some last record
-        split ! $ move ! (1 ∷ []) $ use1 W (some (λ (zs : Progress × (Unit {0} × (Unit {0} × (Unit {0} × Unit {0})))). ‵ (lasts step.ended (α ∷ [], tt) (r l₅ δ, (n, (e, (c, tt)))) zs) ⊛ raw (fact 𝓤 (zs .0 ≡ moved e n c h)))) (id⊢ 𝓤 _) $ pick ! (λ zs.
+        use1 W (later (some (λ (u : Unit {0}). ((‵ (flft (α ∷ []) fullShare) ⊛ ‵ ftrue) ⊛ ‵ (Nothing .own u (v ∷ []))) ⊛ raw (ensured 𝓤 H A move-on.ended (move-on.clauses 𝓤 H A at-mem run) (α ∷ [], tt) (r l₅ δ, (n, (e, (c, tt)))) tt u)))) (id⊢ 𝓤 _) $ await ! tt $ pick ! (λ u.
+        -- what `move_on` ensures, at some last record
+        split ! $ move ! (1 ∷ []) $ use1 W (some (λ (zs : Progress × (Unit {0} × (Unit {0} × (Unit {0} × Unit {0})))). ‵ (lasts move-on.ended (α ∷ [], tt) (r l₅ δ, (n, (e, (c, tt)))) zs) ⊛ raw (fact 𝓤 (zs .0 ≡ moved e n c h)))) (id⊢ 𝓤 _) $ pick ! (λ zs.
         split ! $ move ! (1 ∷ []) $ heard ! (zs .0 ≡ moved e n c h) (λ p. fsplit ! $ move ! (2 ∷ []) $ split ! $ move ! (1 ∷ []) $ feqL ! (λ ev.
         -- [the token; the last value; …; the lender's part; _7; …; _6; …; …; _4; …; _3; …; _2; …; _1; …; room for _0; …]
         land ! (from ! (stop !)) (init ! 6 refl (subst (λ (y : Val). Holds (hasTy tyUnit y) × WT y) (sym (ap only ev)) (tt, tt))) $
@@ -148,23 +148,23 @@ module _ {M : Type 1} (𝓤 : URA M) (H : Heap 𝓤) (A : Atoms 𝓤) (W : Given
         keep ! [] $ by ! (exits (zs .0) gz p))))))))))))))))))
 
 module _ {M : Type 1} (𝓤 : URA M) (H : Heap 𝓤) (A : Atoms 𝓤) (W : Given 𝓤 H A) (mem′ : Memory → SProp 𝓤) (run : Routine → Fun 𝓤) where
-  stepped-walks : (C : Calls 𝓤 H) (Λ : Loops 𝓤 H) → FmC 𝓤 H (W .laws) C → Triple 𝓤 (C #progress·step) (Step 𝓤 H A mem′ run) → Walks 𝓤 H A stepped.ended stayed (WpFn 𝓤 H C Λ code.function) (stepped.clauses 𝓤 H A mem′ run)
-  stepped-walks C Λ fm known =
-      walked 𝓤 H A stepped.ended stayed (stepped.clauses 𝓤 H A mem′ run) (WpFn 𝓤 H C Λ code.function) (λ κs. (LL.vals T.the-type T′.the-laws, (uint-vals w32, (bool-vals, (uint-vals w64, tt))))) (λ κs. (LL.tells T.the-type T′.the-laws, (uint-tells w32, (bool-tells, (uint-tells w64, tt)))))
+  moved-on-walks : (C : Calls 𝓤 H) (Λ : Loops 𝓤 H) → FmC 𝓤 H (W .laws) C → Triple 𝓤 (C #progress·move-on) (MoveOn 𝓤 H A mem′ run) → Walks 𝓤 H A moved-on.ended stayed (WpFn 𝓤 H C Λ code.function) (moved-on.clauses 𝓤 H A mem′ run)
+  moved-on-walks C Λ fm known =
+      walked 𝓤 H A moved-on.ended stayed (moved-on.clauses 𝓤 H A mem′ run) (WpFn 𝓤 H C Λ code.function) (λ κs. (LL.vals T.the-type T′.the-laws, (uint-vals w32, (bool-vals, (uint-vals w64, tt))))) (λ κs. (LL.tells T.the-type T′.the-laws, (uint-tells w32, (bool-tells, (uint-tells w64, tt)))))
       (λ κs qs bounds a _ are. needs 𝓤 (cond (a .1 .1 .0) (a .0 .rounds) (a .0 .expansions) < maxCount) _ (λ room.
       walk 𝓤 H A W mem′ run (a .0) (a .1 .0) (a .1 .1 .0) (a .1 .1 .1 .0) (are .0) (are .1 .0 .1) (are .1 .1 .1 .0 .1) room C Λ fm known))
 
-stepped-meets : {M : Type 1} (𝓤 : URA M) (H : Heap 𝓤) (A : Atoms 𝓤) → Given 𝓤 H A → (mem′ : Memory → SProp 𝓤) (run : Routine → Fun 𝓤) (𝓣 : Tables 𝓤 H) → Triple 𝓤 (𝓣 .C #progress·step) (Step 𝓤 H A mem′ run)
-    → Meets 𝓤 H A stepped.signature (WpFn 𝓤 H (𝓣 .C) (𝓣 .Λ) code.function) (stepped.spec 𝓤 H A mem′ run)
-stepped-meets 𝓤 H A W mem′ run 𝓣 known =
-    walk-meets 𝓤 H A stepped.ended stayed W
+moved-on-meets : {M : Type 1} (𝓤 : URA M) (H : Heap 𝓤) (A : Atoms 𝓤) → Given 𝓤 H A → (mem′ : Memory → SProp 𝓤) (run : Routine → Fun 𝓤) (𝓣 : Tables 𝓤 H) → Triple 𝓤 (𝓣 .C #progress·move-on) (MoveOn 𝓤 H A mem′ run)
+    → Meets 𝓤 H A moved-on.signature (WpFn 𝓤 H (𝓣 .C) (𝓣 .Λ) code.function) (moved-on.spec 𝓤 H A mem′ run)
+moved-on-meets 𝓤 H A W mem′ run 𝓣 known =
+    walk-meets 𝓤 H A moved-on.ended stayed W
     (goes-none 𝓤 H A W 0 (λ _. T.the-row) yes (λ κs x f. refl), (goes-none 𝓤 H A W 0 (λ _. u32) yes (λ κs x f. refl), (goes-none 𝓤 H A W 0 (λ _. bool) yes (λ κs x f. refl), (goes-none 𝓤 H A W 0 (λ _. u64) yes (λ κs x f. refl), tt))))
-    (stepped.clauses 𝓤 H A mem′ run) (WpFn 𝓤 H (𝓣 .C) (𝓣 .Λ) code.function) (WpFn-mono 𝓤 H (W .laws) 𝓣 code.function) (stepped-walks 𝓤 H A W mem′ run (𝓣 .C) (𝓣 .Λ) (fmOf 𝓤 H (W .laws) 𝓣) known)
+    (moved-on.clauses 𝓤 H A mem′ run) (WpFn 𝓤 H (𝓣 .C) (𝓣 .Λ) code.function) (WpFn-mono 𝓤 H (W .laws) 𝓣 code.function) (moved-on-walks 𝓤 H A W mem′ run (𝓣 .C) (𝓣 .Λ) (fmOf 𝓤 H (W .laws) 𝓣) known)
 
-pub stepped-spec : {M : Type 1} → stated.statement M
+pub moved-on-spec : {M : Type 1} → stated.statement M
 unfolding code.routine tablesOf
-stepped-spec 𝓤 H 𝓜 𝓖 𝓡 =
-    entered 𝓤 H (tripleOf 𝓤 H (𝓖 .A) stepped.signature (stepped.spec 𝓤 H (𝓖 .A) (𝓜 .mem) (𝓡 .run)))
-    (tables 𝓤 H 𝓜 𝓡 code.env .C) (tables 𝓤 H 𝓜 𝓡 code.env .Λ) #progress·stepped code.function (code.unfolded 𝓤 H 𝓜 𝓡)
-    (stepped-meets 𝓤 H (𝓖 .A) (givenOf 𝓤 H 𝓜 𝓖) (𝓜 .mem) (𝓡 .run) (tablesOf 𝓤 H 𝓜 (tables 𝓤 H 𝓜 𝓡 code.env))
-    (cited 𝓤 H (Step 𝓤 H (𝓖 .A) (𝓜 .mem) (𝓡 .run)) 𝓜 𝓡 code.env #progress·step step-def.routine code.calls-progress·step (step-thm.met 𝓤 H 𝓜 𝓖 𝓡)))
+moved-on-spec 𝓤 H 𝓜 𝓖 𝓡 =
+    entered 𝓤 H (tripleOf 𝓤 H (𝓖 .A) moved-on.signature (moved-on.spec 𝓤 H (𝓖 .A) (𝓜 .mem) (𝓡 .run)))
+    (tables 𝓤 H 𝓜 𝓡 code.env .C) (tables 𝓤 H 𝓜 𝓡 code.env .Λ) #progress·moved-on code.function (code.unfolded 𝓤 H 𝓜 𝓡)
+    (moved-on-meets 𝓤 H (𝓖 .A) (givenOf 𝓤 H 𝓜 𝓖) (𝓜 .mem) (𝓡 .run) (tablesOf 𝓤 H 𝓜 (tables 𝓤 H 𝓜 𝓡 code.env))
+    (cited 𝓤 H (MoveOn 𝓤 H (𝓖 .A) (𝓜 .mem) (𝓡 .run)) 𝓜 𝓡 code.env #progress·move-on move-on-def.routine code.calls-progress·move-on (move-on-thm.met 𝓤 H 𝓜 𝓖 𝓡)))

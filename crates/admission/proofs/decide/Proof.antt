@@ -1,12 +1,12 @@
--- `fault` meets its contract: the plan, then the rows. Assumes nothing.
+-- `decide` meets its contract: the plan, then the rows. Assumes nothing.
 use mathlib.Core.Path.{sym, ap, _∙_}
 use Rattle.plan_check.specs.Refusals.{planRefusal}
 use Rattle.plan_check.proofs.Counts.{check-header, check-rest}
 use Rattle.plan_check.proofs.Checked.{checked-sizes}
 use Rattle.admission.proofs.Verdicts.{plan-refused}
 use borrow.Author.Needs.{needs}
-use Rattle.admission.proofs.fault.Statement.{statement}
-use Rattle.admission.proofs.fault.Tie as tie
+use Rattle.admission.proofs.decide.Statement.{statement}
+use Rattle.admission.proofs.decide.Tie as tie
 
 header-requires : tie.Need-header-requires
 header-requires c κs = search needs
@@ -53,8 +53,8 @@ call-verdict-requires c κs =
 returns-3 : tie.Need-returns-3
 returns-3 c = search needs
 
-pub fault-spec : {M : Type 1} → statement M
-fault-spec =
+pub decide-spec : {M : Type 1} → statement M
+decide-spec =
     tie.close
     (tie.spec
     header-requires

@@ -1,0 +1,61 @@
+-- `plan_stored` meets its contract: the tables are taken apart, and the call is the job's. Assumes nothing.
+use mathlib.Core.Path.{sym}
+use lib.Seq.{length-take-le}
+use Rattle.job.proofs.Accepted.{accepted-ready}
+use Rattle.bench_text.proofs.Calls.{first-table, call-is}
+use borrow.Author.Needs.{needs}
+use Rattle.bench_text.proofs.planning.plan_stored.Statement.{statement}
+use Rattle.bench_text.proofs.planning.plan_stored.Tie as tie
+
+slice-aggregate-anchor : tie.Need-slice-aggregate-anchor
+slice-aggregate-anchor c =
+    let a = c .before .before .before .before .before in sym (length-take-le _ _ (first-table (a .args .job .now) (a .args .front) _ _ _ (a .pre)))
+
+mul-sheets : tie.Need-mul-sheets
+mul-sheets c = search needs
+
+sub-sheets : tie.Need-sub-sheets
+sub-sheets c = let a = c .before .before .before .before .before in first-table (a .args .job .now) (a .args .front) _ _ _ (a .pre)
+
+part-sheets-start : tie.Need-part-sheets-start
+part-sheets-start c = let a = c .before .before .before .before .before in first-table (a .args .job .now) (a .args .front) _ _ _ (a .pre)
+
+part-sheets-end : tie.Need-part-sheets-end
+part-sheets-end c = search needs
+
+sub-plan-call : tie.Need-sub-plan-call
+sub-plan-call c = let a = c .before .before .before .before .before .before .before in accepted-ready (a .args .job .now) (a .args .front) (a .args .vertices) (a .pre .accepted) .fits .plan
+
+part-plan-call-start : tie.Need-part-plan-call-start
+part-plan-call-start c = let a = c .before .before .before .before .before .before .before in accepted-ready (a .args .job .now) (a .args .front) (a .args .vertices) (a .pre .accepted) .fits .plan
+
+part-plan-call-end : tie.Need-part-plan-call-end
+part-plan-call-end c = let a = c .before .before .before .before .before .before .before in accepted-ready (a .args .job .now) (a .args .front) (a .args .vertices) (a .pre .accepted) .fits .end
+
+plan-call-requires : tie.Need-plan-call-requires
+plan-call-requires c κs = search needs
+
+same-length : tie.Need-same-length
+same-length c = search needs
+
+returns : tie.Need-returns
+returns c =
+    let k = c .before .before in
+    let a = k .before .before .before .before .before .before .before .before .before in
+    rw (call-is (a .args .job .now) (a .args .front) (a .args .vertices) (a .args .schedule .now) (a .args .tables .now) (a .pre)) at (k .plan-call .ensures)
+
+pub plan-stored-spec : {M : Type 1} → statement M
+plan-stored-spec =
+    tie.close
+    (tie.spec
+    slice-aggregate-anchor
+    mul-sheets
+    sub-sheets
+    part-sheets-start
+    part-sheets-end
+    sub-plan-call
+    part-plan-call-start
+    part-plan-call-end
+    plan-call-requires
+    same-length
+    returns)
