@@ -1,5 +1,4 @@
 -- What a verdict says of its call, for whoever asks for one; and the schedule of the job that a call asks.
--- Assumes nothing.
 use Prim.Native.Nat.{ℕ}
 use native.Mathlib.Omega.{arith}
 use mathlib.Core.Path.{_≡_, refl, subst}

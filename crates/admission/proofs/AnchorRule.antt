@@ -1,5 +1,4 @@
 -- Laws for the code that tests the anchor heuristic: one edge tried, and edge after edge.
--- Assumes nothing.
 use Prim.Native.Nat.{ℕ, suc, _+_, _-_, _≤_, _<_}
 use native.Mathlib.Numerals.{add-one}
 use native.Mathlib.Omega.{arith}

@@ -1,5 +1,4 @@
 -- Laws for the code that tests the anchor heuristic at the goal: row 12, then row 13.
--- Assumes nothing.
 use Prim.Native.Nat.{ℕ}
 use mathlib.Core.Path.{_≡_, refl, sym, ap, _∙_}
 use mathlib.Core.Bool.{not}

@@ -1,8 +1,7 @@
 -- Laws for the code that decides a call: its rows downwards.
--- Assumes nothing.
 use Prim.Native.Nat.{ℕ, _+_, _*_, _<_}
 use native.Mathlib.Omega.{arith}
-use mathlib.Core.Path.{_≡_, sym, ap, _∙_}
+use mathlib.Core.Path.{_≡_, sym, _∙_}
 use mathlib.Core.Bool.{Bool, true, false, not, _&&_, _||_}
 use mathlib.Core.List.{List, [], _∷_}
 use lib.ListN.{length, getD}
@@ -10,7 +9,6 @@ use lib.Dec.{ltb, eqb}
 use borrow.Author.Tests.{ltb-true, eqb-true}
 use Rattle.graph.specs.declared.Edge.{Edge}
 use Rattle.graph.specs.declared.Header.the-variants.{Counts}
-use Rattle.graph.specs.declared.PlanRead.{PlanRead}
 use Rattle.graph.specs.declared.PlanRead.the-variants.{Sizes}
 use Rattle.graph.specs.declared.PlanRead.the-variants as plan
 use Rattle.graph.specs.Plan.{Decoded, accepted, refused, header, afterHeader, decode, firstAt, edgesFrom, sizes}
@@ -23,7 +21,6 @@ use Rattle.admission.specs.declared.Verdict.{Verdict}
 use Rattle.admission.specs.declared.Verdict.the-variants.{Refused}
 use Rattle.admission.specs.Verdict.{verdict}
 use Rattle.admission.specs.Admission.{verdictOf, Decided}
-use Rattle.admission.specs.PlanVerdict.{planVerdict}
 
 -- ---- the rows of a call whose plan was checked
 
@@ -113,9 +110,7 @@ refused-by (refused k q) n p h =
 
 module _ (s : List ℕ) (start goal : ℕ) (anchor sheets : List ℕ) (count : ℕ) (schedule : List ℕ) (route work : ℕ) where
   pub plan-refused :
-      (a : PlanRead) (r : Verdict) (n p : ℕ) → r ≡ planVerdict a → a ≡ sizes (decode s) → a ≡ plan.Refused n p →
-      Decided s start goal anchor sheets count schedule route work r
+      (n p : ℕ) → sizes (decode s) ≡ plan.Refused n p → Decided s start goal anchor sheets count schedule route work (Refused n p)
   unfolding verdictOf verdict faultOf faultIn
-  plan-refused a r n p f e q =
-      let d : decode s ≡ refused n p = refused-by (decode s) n p (sym e ∙ q) in
-      record { decided = λ budget memory k l. f ∙ ap planVerdict q ∙ sym (rw d) }
+  plan-refused n p q =
+      let d : decode s ≡ refused n p = refused-by (decode s) n p q in record { decided = λ budget memory k l. sym (rw d) }

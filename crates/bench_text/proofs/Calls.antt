@@ -1,5 +1,4 @@
 -- Numbers stored at an array's front, the call that they ask, and the text of what it hands over.
--- Assumes nothing.
 use Prim.Native.Nat.{ℕ, _+_, _-_, _*_, _≤_}
 use native.Mathlib.Omega.{arith}
 use native.Mathlib.Nat.{mul-le-mul-left}
@@ -16,7 +15,7 @@ use Rattle.job.specs.Reading.{jobRead, planOf, tableCount}
 use Rattle.job.specs.Numbers.{values}
 use Rattle.job.specs.Asked.{scheduleOf, tablesOf, anchorOf, sheetsOf, callWith, callAsked}
 use Rattle.job.specs.Printed.{printed, callText}
-use Rattle.job.proofs.Accepted.{Ready, accepted-ready}
+use Rattle.job.proofs.Accepted.{accepted-ready}
 use Rattle.job.specs.Texts.{Texts}
 use Rattle.bench_text.specs.Stored.{Stored}
 

@@ -1,5 +1,4 @@
 -- The table of document 01's (p) cases, and the job that tells its rules from others.
--- Assumes nothing.
 use mathlib.Core.Path.{refl}
 use Rattle.leb128.specs.Number.{planGroups, more, answered, read}
 use Rattle.leb128.specs.Number

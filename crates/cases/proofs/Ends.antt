@@ -1,5 +1,4 @@
 -- A search from its beginning: step 1 where a round is left. What a call hands over that is not refused, or whose plan is.
--- Assumes nothing.
 use mathlib.Core.Path.{_≡_}
 use mathlib.Core.List.{List}
 use Prim.Native.Nat.{ℕ, suc, _-_}

@@ -1,5 +1,4 @@
 -- Job A is admitted, and its guarantee bounds the cost of every walk.
--- Assumes nothing.
 use mathlib.Core.Path.{_≡_, refl, ap}
 use mathlib.Core.List.{List}
 use Prim.Native.Nat.{ℕ, _*_, _≤_}

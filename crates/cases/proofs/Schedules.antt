@@ -1,5 +1,4 @@
 -- The schedule in force is one as document 01 has it, also where the house schedule stands in its place.
--- Assumes nothing.
 use mathlib.Core.List.{List, [], _∷_}
 use Prim.Native.Nat.{ℕ}
 use native.Mathlib.Omega.{arith}

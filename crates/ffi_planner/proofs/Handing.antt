@@ -1,10 +1,9 @@
--- What is handed to other languages is the planner call's own outcome. Assumes nothing.
+-- What is handed to other languages is the planner call's own outcome.
 use mathlib.Core.Path.{_≡_, subst, ap, _∙_}
 use mathlib.Core.List.{List}
 use Prim.Native.Nat.{ℕ}
 use Rattle.search.specs.declared.Answer.{Answer}
 use Rattle.search.specs.Call.{Call}
-use Rattle.search.specs.Outcome.{answer}
 use Rattle.planner.specs.Plan.{Planned}
 use Rattle.ffi_planner.specs.Calls.{answerFigures, Exported}
 

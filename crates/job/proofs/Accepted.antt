@@ -1,8 +1,7 @@
 -- What is known of the front of a job that was read whole, and of a job that was accepted.
--- Assumes nothing.
 use Prim.Native.Nat.{ℕ, _+_, _*_, _≤_}
 use native.Mathlib.Omega.{arith}
-use mathlib.Core.Path.{_≡_, refl, sym, ap, _∙_}
+use mathlib.Core.Path.{_≡_, refl, sym, ap}
 use mathlib.Core.Bool.{Bool, true, false, cond, _||_}
 use mathlib.Core.List.{List}
 use lib.ListN.{length}
@@ -19,9 +18,8 @@ use Rattle.job.specs.declared.NumbersRead.the-variants.{Past, Malformed}
 use Rattle.job.specs.declared.FrontRead.{FrontRead}
 use Rattle.job.specs.declared.FrontRead.the-variants.{Whole}
 use Rattle.job.specs.declared.FrontRead.the-variants as frontRead
-use Rattle.job.specs.declared.JobRead.{JobRead}
 use Rattle.job.specs.declared.JobRead.the-variants.{Accepted, Refused}
-use Rattle.job.specs.Numbers.{endOf, values}
+use Rattle.job.specs.Numbers.{endOf}
 use Rattle.job.specs.Front.{maxJobRounds, maxJobGuides, rounds, ends, front}
 use Rattle.job.specs.Reading.{maxJobBytes, maxJobVertices, maxJobEdges, planOf, tableCount, afterTables, afterSizes, afterPlan, afterFront, jobRead}
 use Rattle.job.specs.Asked.{scheduleOf, tablesOf}

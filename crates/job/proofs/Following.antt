@@ -1,5 +1,4 @@
 -- What follows a number or a test: laws for the code that reads on, and of what was read whole.
--- Assumes nothing.
 use Prim.Native.Nat.{ℕ}
 use native.Mathlib.Omega.{arith}
 use mathlib.Core.Path.{_≡_, refl, sym, ap, _∙_}

@@ -1,5 +1,4 @@
 -- Job A's printed text, by computing.
--- Assumes nothing.
 use mathlib.Core.Path.{refl}
 use Rattle.leb128.specs.Number.{planGroups, jobGroups, more, answered, read}
 use Rattle.leb128.specs.Number

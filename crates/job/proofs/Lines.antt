@@ -1,15 +1,13 @@
 -- How long the lines are where every number is one of 32 or 64 bits, and the text that they make.
--- Assumes nothing.
-use Prim.Native.Nat.{ℕ, _+_, _*_, _/_, _%_, _^_, _<_, _≤_, min}
+use Prim.Native.Nat.{ℕ, _+_, _*_, _^_, _<_, _≤_}
 use native.Mathlib.Omega.{arith}
-use native.Mathlib.Nat.{mul-le-mul-right}
-use mathlib.Core.Path.{_≡_, sym, subst}
+use mathlib.Core.Path.{sym, subst}
 use mathlib.Core.List.{List, _++_}
-use lib.ListN.{length, getD, take, length-append, length-take}
+use lib.ListN.{length, getD, take, length-take}
 use lib.Seq.{getD-take}
 use mir.Val.{Fits}
 use mir.Syntax.{w32}
-use Rattle.text.specs.Laid.{Put, Counted}
+use Rattle.text.specs.Laid.{Put}
 use Rattle.text.specs.Text.{loggedLine, turnLines, routeLine, endLine, noRouteLine, unfinishedLine, refusedLine}
 use Rattle.text.proofs.Laid.{put-length, then-put}
 use Rattle.text.proofs.Lengths.{length-each, length-turn-line, length-end-line, length-no-route-line, length-unfinished-line, length-refused-line, length-route-line}

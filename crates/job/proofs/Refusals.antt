@@ -1,9 +1,7 @@
 -- A job is refused for the faults of its plan, and the call of an accepted one for its own rows alone.
--- Assumes nothing.
-use Prim.Native.Nat.{ℕ, zero, suc, _+_, _-_, _*_, _≤_}
+use Prim.Native.Nat.{ℕ, suc, _+_, _*_, _≤_}
 use native.Mathlib.Omega.{arith}
-use native.Mathlib.Nat.{mul-le-mul-left}
-use mathlib.Core.Path.{_≡_, refl, sym, ap, subst, _∙_}
+use mathlib.Core.Path.{_≡_, ap, subst, _∙_}
 use mathlib.Core.Bool.{Bool, true, false, cond}
 use mathlib.Core.List.{List, [], _∷_}
 use lib.ListN.{length, getD, take, drop, length-drop}
@@ -14,12 +12,11 @@ use Rattle.graph.specs.declared.Edge.{Edge}
 use Rattle.graph.specs.declared.PlanRead.the-variants as checked
 use Rattle.graph.specs.Plan.{Decoded, accepted, refused, decode, sizes}
 use Rattle.graph.specs.Lists.{Fault, none, fault}
-use Rattle.search.specs.Job.{house}
-use Rattle.search.specs.Call.{Call, inForce, row, first, endsRow, tablesRow, scheduleRow, memoryRow, goalRow, edgesRow, faultIn, faultOf}
+use Rattle.search.specs.Call.{row, first, endsRow, tablesRow, scheduleRow, memoryRow, goalRow, edgesRow, faultIn, faultOf}
 use Rattle.job.specs.declared.Front.{Front}
-use Rattle.job.specs.declared.JobRead.the-variants.{Accepted, Refused}
+use Rattle.job.specs.declared.JobRead.the-variants.{Refused}
 use Rattle.job.specs.Front.{front}
-use Rattle.job.specs.Reading.{maxJobBytes, maxJobVertices, maxJobEdges, planOf, tableCount, afterPlan, afterFront, jobRead}
+use Rattle.job.specs.Reading.{maxJobBytes, maxJobEdges, planOf, tableCount, afterPlan, afterFront, jobRead}
 use Rattle.job.specs.Asked.{tablesOf, anchorOf, sheetsOf, routeSize, workSize, zeros, callWith, callAsked}
 use Rattle.job.specs.Refusals.{Own, ends, schedule, goal, edge, OwnRefusals, PlanRefusals}
 use Rattle.job.proofs.Accepted.{Ready, accepted-ready}

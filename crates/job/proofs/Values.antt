@@ -1,9 +1,8 @@
 -- Laws of numbers one after another: one number fewer to come, and how many values there are.
--- Assumes nothing.
 use Prim.Native.Nat.{ℕ, zero, suc, _-_, _<_}
 use native.Mathlib.Omega.{arith}
 use mathlib.Core.Path.{_≡_, refl, sym, ap, _∙_}
-use mathlib.Core.List.{List, [], _∷_}
+use mathlib.Core.List.{List, []}
 use lib.ListN.{length}
 use Rattle.leb128.specs.Number.{read, jobGroups}
 use Rattle.leb128.specs.declared.NumberRead.{NumberRead}

@@ -1,10 +1,9 @@
 -- Laws of memory as numbers are stored one after another.
--- Assumes nothing.
-use Prim.Native.Nat.{ℕ, zero, suc, _+_, _-_, _<_, _≤_}
+use Prim.Native.Nat.{ℕ, suc, _+_, _-_, _<_, _≤_}
 use native.Mathlib.Omega.{arith}
 use mathlib.Core.Path.{_≡_, refl, sym, ap, _∙_}
-use mathlib.Core.List.{List, [], _∷_}
-use lib.ListN.{length, set, length-set}
+use mathlib.Core.List.{List}
+use lib.ListN.{length, length-set}
 use lib.Seq.{sets}
 use Rattle.leb128.specs.Number.{read, jobGroups}
 use Rattle.leb128.specs.declared.NumberRead.{NumberRead}

@@ -1,30 +1,25 @@
 -- Laws for the code that reads the edges of a plan: each step of it gives what the definition gives.
--- Assumes nothing.
-use Prim.Native.Nat.{ℕ, zero, suc, _+_, _-_, _≤_, _<_}
+use Prim.Native.Nat.{ℕ, suc, _+_, _-_, _≤_, _<_}
 use native.Mathlib.Omega.{arith}
-use mathlib.Core.Path.{_≡_, refl, sym, ap, _∙_, subst}
-use mathlib.Core.Bool.{Bool, true, false, cond}
-use mathlib.Core.List.{List, [], _∷_}
+use mathlib.Core.Path.{_≡_, refl, sym, ap, _∙_}
+use mathlib.Core.Bool.{cond}
+use mathlib.Core.List.{List}
 use lib.ListN.{length}
-use lib.Dec.{ltb, leb, eqb}
+use lib.Dec.{eqb}
 use borrow.Author.Tests.{leb-false, lt-ltb, le-ltb}
 use Rattle.graph.specs.declared.Edge.{Edge}
 use Rattle.graph.specs.declared.Cursor.{Cursor}
-use Rattle.graph.specs.declared.Taken.{Taken}
 use Rattle.graph.specs.declared.Taken.the-variants.{Number}
 use Rattle.graph.specs.declared.Taken.the-variants as taken
-use Rattle.graph.specs.declared.EdgeRead.{EdgeRead}
 use Rattle.graph.specs.declared.EdgeRead.the-variants.{Next}
 use Rattle.graph.specs.declared.EdgeRead.the-variants as edgeRead
 use Rattle.graph.specs.declared.PlanRead.{PlanRead}
 use Rattle.graph.specs.declared.PlanRead.the-variants.{Sizes, Refused}
-use Rattle.graph.specs.Limits.{maxVertices}
-use Rattle.graph.specs.Rows.{Row, row, through, take, taking, tailRows, headRows, costRows}
+use Rattle.graph.specs.Rows.{take, taking, tailRows, headRows, costRows}
 use Rattle.graph.specs.Plan.{Decoded, accepted, refused, firstAt, leastAfter, past, nextEdge, before, onward, edgesFrom, sizes}
-use Rattle.plan_check.specs.Past.{cursorRefusal, edgeRefusal}
 use Rattle.graph.proofs.Rows.{Passed, take-passed}
 
--- ---- the cursor's step
+-- ---- the next edge
 
 -- a tail that was taken is a vertex, and so is a head
 pub taken-tail : (v t : ℕ) (s : List ℕ) (at d next : ℕ) → take s at (tailRows v t) ≡ Number d next → t + d < v
@@ -38,36 +33,33 @@ taken-head v l s at h next e =
     let p : Passed s at (headRows v l) h next = take-passed s at (headRows v l) h next e in leb-false v h (p .passes .0)
 
 module _ (v : ℕ) (s : List ℕ) (c : Cursor) where
-  module _ (t : Taken) (r : EdgeRead) (n p : ℕ) (f : r ≡ cursorRefusal t) (b : t ≡ taken.Refused n p) where
-    is-fault : r ≡ edgeRead.Refused n p
-    is-fault = f ∙ ap cursorRefusal b
-
-    pub step-tail : t ≡ take s (c .at) (tailRows v (c .tail)) → r ≡ nextEdge v s c
+  module _ (n p : ℕ) where
+    pub tail-refused : take s (c .at) (tailRows v (c .tail)) ≡ taken.Refused n p → edgeRead.Refused n p ≡ nextEdge v s c
     unfolding nextEdge taking
-    step-tail e = is-fault ∙ rw (sym e ∙ b)
+    tail-refused e = rw e
 
-    pub step-head :
+    pub head-refused :
         (d headAt l : ℕ) → take s (c .at) (tailRows v (c .tail)) ≡ Number d headAt → l ≡ cond (eqb d 0) (c .least) 0 →
-        t ≡ take s headAt (headRows v l) → r ≡ nextEdge v s c
+        take s headAt (headRows v l) ≡ taken.Refused n p → edgeRead.Refused n p ≡ nextEdge v s c
     unfolding nextEdge taking leastAfter
-    step-head d headAt l a k e = is-fault ∙ rw (a, sym k, sym e ∙ b)
+    head-refused d headAt l a k e = rw (a, sym k, e)
 
-    pub step-cost :
+    pub cost-refused :
         (d headAt l h costAt : ℕ) → take s (c .at) (tailRows v (c .tail)) ≡ Number d headAt → l ≡ cond (eqb d 0) (c .least) 0 →
-        take s headAt (headRows v l) ≡ Number h costAt → t ≡ take s costAt costRows → r ≡ nextEdge v s c
+        take s headAt (headRows v l) ≡ Number h costAt → take s costAt costRows ≡ taken.Refused n p → edgeRead.Refused n p ≡ nextEdge v s c
     unfolding nextEdge taking leastAfter
-    step-cost d headAt l h costAt a k i e = is-fault ∙ rw (a, sym k, i, sym e ∙ b)
+    cost-refused d headAt l h costAt a k i e = rw (a, sym k, i, e)
 
-  pub step-edge :
+  pub edge-taken :
       (d headAt l h costAt x end : ℕ) → take s (c .at) (tailRows v (c .tail)) ≡ Number d headAt → l ≡ cond (eqb d 0) (c .least) 0 →
       take s headAt (headRows v l) ≡ Number h costAt → take s costAt costRows ≡ Number x end →
       Next (record { tail = c .tail + d; head = h; cost = x }) (record { at = end; tail = c .tail + d; least = h + 1 }) ≡ nextEdge v s c
   unfolding nextEdge taking leastAfter past
-  step-edge d headAt l h costAt x end a k i e = rw (a, sym k, i, e)
+  edge-taken d headAt l h costAt x end a k i e = rw (a, sym k, i, e)
 
 -- ---- edge after edge
 
--- the answer of a check with so many edges more before it
+-- the answer of a check with k edges more before it
 unfoldable pub more : ℕ → PlanRead → PlanRead
 more k (Sizes v m) = Sizes v (k + m)
 more k (Refused n p) = Refused n p
@@ -82,7 +74,7 @@ unfolding more sizes before
 sizes-before e (accepted v es) = ap (Sizes v) (omega arith)
 sizes-before e (refused n p) = refl
 
--- what a check answers, told from a cursor that has so many of m edges left
+-- what a check answers, told from a cursor that has `left` of m edges left
 pub record Told (v m : ℕ) (s : List ℕ) (at left : ℕ) (c : Cursor) : Type 0 where
   pub within : left ≤ m
   pub told : sizes (edgesFrom v m s (firstAt at)) ≡ more (m - left) (sizes (edgesFrom v left s c))
@@ -121,13 +113,10 @@ module _ (v m : ℕ) (s : List ℕ) (at : ℕ) where
               ∙ ap (λ (x : ℕ). more x (sizes (edgesFrom v (left - 1) s c′))) k;
         }
 
-    pub told-fault :
-        (r : EdgeRead) (a : PlanRead) (n p : ℕ) → a ≡ edgeRefusal r → r ≡ edgeRead.Refused n p → r ≡ nextEdge v s c →
-        a ≡ sizes (edgesFrom v m s (firstAt at))
+    pub told-refused : (n p : ℕ) → nextEdge v s c ≡ edgeRead.Refused n p → Refused n p ≡ sizes (edgesFrom v m s (firstAt at))
     unfolding edgesFrom onward sizes more
-    told-fault r a n p f b e =
-        let q : sizes (edgesFrom v (suc (left - 1)) s c) ≡ Refused n p = rw (sym e ∙ b) refl in
-        f ∙ ap edgeRefusal b ∙ sym (told-suc ∙ ap (more (m - left)) q)
+    told-refused n p e =
+        let q : sizes (edgesFrom v (suc (left - 1)) s c) ≡ Refused n p = rw e refl in sym (told-suc ∙ ap (more (m - left)) q)
 
   -- none is left
   module _ (left : ℕ) (c : Cursor) (none : left ≤ 0) (t : Told v m s at left c) where

@@ -1,7 +1,6 @@
 // A plan number through all its rows: read, or refused with the offset of its first byte.
 ghost use mathlib.Core.Path.{_≡_};
 ghost use Rattle.graph.specs.Rows.{take, vertexCountRows, edgeCountRows, tailRows, headRows, costRows};
-ghost use Rattle.graph.specs.Plan as plan;
 use graph::Taken;
 use leb128::NumberRead;
 

@@ -1,8 +1,7 @@
 -- Laws for the step through a plan that was checked: a number that is read there passes its rows.
--- Assumes nothing.
-use Prim.Native.Nat.{ℕ, _+_, _-_}
+use Prim.Native.Nat.{ℕ, _-_}
 use native.Mathlib.Omega.{arith}
-use mathlib.Core.Path.{_≡_, sym, ap, _∙_, subst}
+use mathlib.Core.Path.{_≡_, sym, _∙_, subst}
 use mathlib.Core.Bool.{cond}
 use mathlib.Core.List.{List}
 use lib.Dec.{eqb}
@@ -11,7 +10,7 @@ use Rattle.leb128.specs.declared.NumberRead.the-variants.{Value, Refused}
 use Rattle.graph.specs.declared.Cursor.{Cursor}
 use Rattle.graph.specs.declared.Taken.the-variants.{Number}
 use Rattle.graph.specs.Rows.{Row, take, tailRows, headRows, costRows}
-use Rattle.graph.specs.Plan.{leastAfter, past}
+use Rattle.graph.specs.Plan.{leastAfter}
 use Rattle.plan_reader.specs.Stored.{HasNext}
 use Rattle.graph.proofs.Rows.{Passes, Passed, passed-take}
 use Rattle.graph.proofs.OneEdge.{Read, read-edge}

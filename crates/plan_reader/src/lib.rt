@@ -18,7 +18,7 @@ use graph::Header;
 use graph::PlanRead;
 use plan_check::cursor;
 
-// Whether each list has room for so many edges.
+// Whether each list has room for this count of edges.
 fn has_room(edges: u32, tails: usize, heads: usize, costs: usize) -> bool
     ensures { λ r. ⌜ r ≡ (leb edges tails && leb edges heads && leb edges costs) ⌝ }
 {
@@ -94,17 +94,18 @@ pub fn read(bytes: &[u8], tails: &mut [u32], heads: &mut [u32], costs: &mut [u32
     ensures { λ r. ⌜ now (heads .exit) ≡ listAfter headOf (now (bytes .entry)) (now (heads .entry)) r ⌝ }
     ensures { λ r. ⌜ now (costs .exit) ≡ listAfter costOf (now (bytes .entry)) (now (costs .entry)) r ⌝ }
 {
-    let counts = plan_check::header(bytes);
-    let Header::Counts(vertices, edges, at) = counts else {
-        return plan_check::header_refusal(counts);
-    };
-    let checked = plan_check::check_edges(bytes, vertices, edges, at);
-    let PlanRead::Sizes(_, _) = checked else {
-        return checked;
-    };
-    if !has_room(edges, tails.len(), heads.len(), costs.len()) {
-        return PlanRead::Refused(11, 0);
+    match plan_check::header(bytes) {
+        Header::Refused(n, p) => PlanRead::Refused(n, p),
+        Header::Counts(vertices, edges, at) => {
+            let checked = plan_check::check_edges(bytes, vertices, edges, at);
+            let PlanRead::Sizes(_, _) = checked else {
+                return checked;
+            };
+            if !has_room(edges, tails.len(), heads.len(), costs.len()) {
+                return PlanRead::Refused(11, 0);
+            }
+            fill(bytes, vertices, edges, at, tails, heads, costs);
+            checked
+        }
     }
-    fill(bytes, vertices, edges, at, tails, heads, costs);
-    checked
 }

@@ -1,5 +1,4 @@
 -- Laws of measuring: an edge, and edges one by one, through their rows, with the bytes counted.
--- Assumes nothing.
 use Prim.Native.Nat.{ℕ, _+_, _-_, _*_, _≤_, _<_}
 use native.Mathlib.Omega.{arith}
 use native.Mathlib.Numerals.{add-one}

@@ -1,5 +1,4 @@
 -- Laws of the writer: V, the lists and all edges measured, the whole plan laid, the answer and the output after it.
--- Assumes nothing.
 use Prim.Native.Nat.{ℕ, suc, _+_, _^_, _≤_, _<_}
 use native.Mathlib.Omega.{arith}
 use mathlib.Core.Path.{_≡_, refl, sym, ap, _∙_}

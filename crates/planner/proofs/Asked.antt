@@ -1,17 +1,14 @@
--- What a call that is not refused gives the code: numbers in range, tables and memory long enough. Assumes nothing.
-use Prim.Native.Nat.{ℕ, zero, suc, _+_, _-_, _*_, _≤_, _<_}
-use native.Mathlib.Nat.{mul-le-mul-left, mul-le-mul-right}
+-- What a call that is not refused gives the code: numbers in range, tables and memory long enough.
+use Prim.Native.Nat.{ℕ, _*_, _≤_, _<_}
+use native.Mathlib.Nat.{mul-le-mul-right}
 use native.Mathlib.Omega.{arith}
-use mathlib.Core.Path.{_≡_, refl, sym, ap, _∙_, subst}
+use mathlib.Core.Path.{_≡_, ap, _∙_}
 use mathlib.Core.List.{List, [], _∷_}
-use lib.ListN.{length, getD}
+use lib.ListN.{length}
 use Rattle.graph.specs.Limits.{maxVertices}
-use Rattle.graph.specs.OneForm.{Within}
 use Rattle.graph.proofs.Within.{accepted-within}
-use Rattle.search.specs.declared.Factors.{Factors}
 use Rattle.search.specs.Job.{factors, house}
 use Rattle.search.specs.Call.{Call, inForce, pairs, jobOf}
-use Rattle.search.specs.Bounds.{maxFactor}
 use Rattle.search.specs.Admitted.{Admissible}
 use Rattle.search.proofs.Facts.{Valid, InRange}
 use Rattle.search.proofs.Admitted.{clear, admitted}

@@ -1,4 +1,4 @@
--- The search at first, as memory carries it: the loaded graph, the first vertices, and step 1. Assumes nothing.
+-- The search at first, as memory carries it: the loaded graph, the first vertices, and step 1.
 use Prim.Native.Nat.{ℕ, _-_, _≤_, _<_}
 use native.Mathlib.Omega.{arith}
 use mathlib.Core.Path.{_≡_, refl, sym, ap, _∙_, subst}

@@ -1,4 +1,4 @@
--- The answer, by the record of the search in hand and by route memory. Assumes nothing.
+-- The answer, by the record of the search in hand and by route memory.
 use Prim.Native.Nat.{ℕ, _-_, _*_, _≤_, _<_}
 use native.Mathlib.Nat.{mul-le-mul-left, mul-le-mul-right}
 use native.Mathlib.Omega.{arith}

@@ -1,15 +1,14 @@
--- A call that is not refused, from lent memory to what is handed over. Assumes nothing.
-use Prim.Native.Nat.{ℕ, zero, suc, _+_, _-_, _≤_, _<_}
+-- A call that is not refused, from lent memory to what is handed over.
+use Prim.Native.Nat.{ℕ, _≤_}
 use native.Mathlib.Omega.{arith}
 use mathlib.Core.Path.{_≡_, refl, sym, ap, _∙_, subst}
-use mathlib.Core.List.{List, [], _∷_}
-use lib.ListN.{length, take}
+use mathlib.Core.List.{List, []}
+use lib.ListN.{length}
 use lib.Seq.{take-nil}
 use Rattle.graph.specs.declared.Edge.{Edge}
-use Rattle.graph.specs.declared.Header.{Header}
 use Rattle.graph.specs.declared.Header.the-variants.{Counts}
 use Rattle.graph.specs.declared.Header.the-variants as headerRead
-use Rattle.graph.specs.Plan.{Decoded, accepted, refused, firstAt, header, afterHeader, decode}
+use Rattle.graph.specs.Plan.{accepted, refused, firstAt, header, afterHeader, decode}
 use Rattle.graph.specs.Lists.{none, fault, over, edgesIn}
 use Rattle.graph.proofs.Plan as laws
 use Rattle.graph.proofs.Plan.{accepted≢refused}
@@ -17,7 +16,7 @@ use Rattle.search.specs.declared.Progress.{Progress}
 use Rattle.search.specs.declared.Answer.{Answer}
 use Rattle.search.specs.declared.Answer.the-variants as answers
 use Rattle.search.specs.Job.{Job, house}
-use Rattle.search.specs.Rounds.{Stand, Moment, begin, run, moments, search}
+use Rattle.search.specs.Rounds.{begin, run, moments, search}
 use Rattle.search.specs.Call.{Call, inForce, pairs, faultOf, jobOf}
 use Rattle.search.specs.Outcome.{answerOf, logAfter, workWords, outcome, answerIn, answer, memoryIn, memoryAfter}
 use Rattle.search.proofs.Admitted.{admitted}
@@ -32,10 +31,10 @@ use Rattle.admission.proofs.Admits.{Admits, admits, refuses}
 use Rattle.planner.specs.declared.Query.{Query}
 use Rattle.planner.specs.declared.Standing.{Standing}
 use Rattle.planner.specs.Carried.{Asking, Stands}
-use Rattle.planner.specs.Reached.{Given, Reaches, Running, Runs}
+use Rattle.planner.specs.Reached.{Reaches, Running, Runs}
 use Rattle.planner.specs.Begun.{Called, Beginning, Begins}
 use Rattle.planner.specs.Finished.{AtEnd, Finishing, Finishes}
-use Rattle.planner.specs.Planning.{refusalOf, Lent, Admission, Answers}
+use Rattle.planner.specs.Planning.{Lent, Admission, Answers}
 use Rattle.planner.specs.Plan.{Planned}
 use Rattle.planner.proofs.Jobs.{Accepted, accepts, job-size, job-edges, job-schedule}
 
@@ -133,14 +132,12 @@ module _ (c : Call) (z : Size) (q : Query) (bytes anchor guides schedule route l
 -- ---- refused, or not
 
 module _ (c : Call) where
-  pub planned-refused :
-      (r : Answer) (v : Verdict) (n p : ℕ) → r ≡ refusalOf v → v ≡ verdictOf c → v ≡ Refused n p →
-      Planned c r (c .memory .route) (c .memory .log) (c .memory .work)
+  pub planned-refused : (n p : ℕ) → verdictOf c ≡ Refused n p → Planned c (answers.Refused n p) (c .memory .route) (c .memory .log) (c .memory .work)
   unfolding answer answerIn memoryAfter memoryIn
-  planned-refused r v n p a d e =
-      let f : faultOf c ≡ fault n p = refuses c n p (sym d ∙ e) in
+  planned-refused n p e =
+      let f : faultOf c ≡ fault n p = refuses c n p e in
       record {
-        answers = rw f (a ∙ ap refusalOf e);
+        answers = rw f refl;
         route-is = rw f refl;
         log-is = rw f refl;
         work-is = rw f refl;

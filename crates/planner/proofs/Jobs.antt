@@ -1,16 +1,16 @@
--- What the job of a call is, by its arguments, and whose turn it is. Assumes nothing.
-use Prim.Native.Nat.{ℕ, zero, suc, _+_, _-_, _*_, _≤_, _<_}
+-- What the job of a call is, by its arguments, and whose turn it is.
+use Prim.Native.Nat.{ℕ, zero, suc, _≤_}
 use native.Mathlib.Omega.{arith}
-use mathlib.Core.Path.{_≡_, refl, sym, ap, _∙_, subst}
+use mathlib.Core.Path.{_≡_, refl, ap, _∙_}
 use mathlib.Core.List.{List, [], _∷_}
 use lib.ListN.{length, getD}
 use lib.Dec.{eqb, ltb}
 use mir.Facts.{eqb-no, ltb-yes}
 use Rattle.graph.specs.declared.Edge.{Edge}
 use Rattle.graph.specs.Plan.{Decoded, accepted, refused, decode}
-use Rattle.graph.specs.Lists.{none, fault, edgesIn}
+use Rattle.graph.specs.Lists.{none, fault}
 use Rattle.search.specs.declared.Factors.{Factors}
-use Rattle.search.specs.Job.{Job, guides, heuristic, factors, house}
+use Rattle.search.specs.Job.{guides, heuristic, factors, house}
 use Rattle.search.specs.Rounds.{firstTurn, nextTurn}
 use Rattle.search.proofs.Tools.{cond-ind}
 use Rattle.search.specs.Call.{Call, inForce, pairs, tables, faultIn, faultOf, jobIn, jobFrom, jobOf}

@@ -1,5 +1,5 @@
--- The log of one turn more. Assumes nothing.
-use Prim.Native.Nat.{ℕ, suc, _+_, _*_}
+-- The log of one turn more.
+use Prim.Native.Nat.{ℕ, _+_}
 use mathlib.Core.Path.{_≡_, refl, sym, ap, _∙_}
 use mathlib.Core.List.{List, [], _∷_, _++_, map}
 use lib.ListN.{length, set, take, length-map}

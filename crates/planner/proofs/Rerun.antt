@@ -1,24 +1,21 @@
--- Turns up to a budget, as memory carries them. Assumes nothing.
+-- Turns up to a budget, as memory carries them.
 use Prim.Native.Nat.{ℕ, zero, suc, _+_, _-_, _≤_, _<_}
 use native.Mathlib.Omega.{arith}
-use native.Mathlib.Numerals.{add-one}
 use mathlib.Core.Path.{_≡_, refl, sym, ap, _∙_, subst}
 use mathlib.Core.Bool.{Bool, true, false, _&&_}
-use mathlib.Core.List.{List, [], _∷_, _++_, append-nil}
-use lib.ListN.{length}
+use mathlib.Core.List.{List, _∷_, _++_, append-nil}
 use lib.Dec.{ltb}
 use borrow.Author.Tests.{ltb-true, ltb-false}
 use Rattle.search.specs.declared.Step.{Step}
 use Rattle.search.specs.declared.Step.the-variants.{Stuck, Finished, Due}
 use Rattle.search.specs.Job.{Job}
 use Rattle.search.specs.Rounds.{Stand, Moment, choice, begin, advance, run, moments}
-use Rattle.search.specs.Call.{Call, jobOf}
+use Rattle.search.specs.Call.{jobOf}
 use Rattle.search.proofs.Runs.{Going-on, over, due, going-on, advance-over, run-due, run-over, moments-due, moments-over, moments-within, run-suc}
 use Rattle.workspace.specs.declared.Size.{Size}
 use Rattle.planner.specs.declared.Query.{Query}
 use Rattle.planner.specs.declared.Standing.{Standing}
-use Rattle.planner.specs.Carried.{Asking}
-use Rattle.planner.specs.Reached.{Given, Reaches, Advancing, Advances, Running, Runs}
+use Rattle.planner.specs.Reached.{Reaches, Advancing, Advances, Running, Runs}
 use Rattle.planner.specs.Going.{isDue}
 
 -- ---- one turn more, at the end

@@ -1,15 +1,14 @@
--- Step 1 again and again, as memory carries it. Assumes nothing.
-use Prim.Native.Nat.{ℕ, zero, suc, _+_, _-_, _≤_, _<_}
+-- Step 1 again and again, as memory carries it.
+use Prim.Native.Nat.{ℕ, suc, _-_, _≤_, _<_}
 use native.Mathlib.Omega.{arith}
-use mathlib.Core.Path.{_≡_, refl, sym, ap, _∙_, subst}
+use mathlib.Core.Path.{_≡_, refl, sym, ap, _∙_}
 use mathlib.Core.List.{List}
 use lib.ListN.{length, getD}
-use Rattle.search.specs.declared.Vertex.{Vertex}
 use Rattle.search.specs.declared.Factors.{Factors}
 use Rattle.search.specs.declared.Progress.{Progress}
 use Rattle.search.specs.declared.Step.{Step}
 use Rattle.search.specs.declared.Step.the-variants.{Stuck, Finished, Due}
-use Rattle.search.specs.Job.{Job, heuristic, factors, house, at}
+use Rattle.search.specs.Job.{Job, factors, house, at}
 use Rattle.search.specs.Turn.{least, stepOne}
 use Rattle.search.specs.Rounds.{State, Stand, ended, inHand, step, endRound, onFinished, settle}
 use Rattle.search.specs.Call.{Call, inForce, pairs, jobOf}

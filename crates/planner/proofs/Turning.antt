@@ -1,5 +1,5 @@
--- A turn and step 1 after it, as memory carries them. Assumes nothing.
-use Prim.Native.Nat.{ℕ, zero, suc, _+_, _-_, _*_, _≤_, _<_}
+-- A turn and step 1 after it, as memory carries them.
+use Prim.Native.Nat.{ℕ, _+_, _-_, _≤_, _<_}
 use native.Mathlib.Omega.{arith}
 use mathlib.Core.Path.{_≡_, refl, sym, ap, _∙_, subst}
 use mathlib.Core.List.{List, [], _∷_, _++_, append-nil}
@@ -9,19 +9,18 @@ use Rattle.search.specs.declared.Vertex.{Vertex}
 use Rattle.search.specs.declared.Factors.{Factors}
 use Rattle.search.specs.declared.Choice.{Choice}
 use Rattle.search.specs.declared.Progress.{Progress}
-use Rattle.search.specs.declared.Step.{Step}
-use Rattle.search.specs.declared.Step.the-variants.{Stuck, Finished, Due}
+use Rattle.search.specs.declared.Step.the-variants.{Due}
 use Rattle.search.specs.Job.{Job, guides, heuristic, factors, house}
-use Rattle.search.specs.Turn.{candidate, choose, expand}
+use Rattle.search.specs.Turn.{candidate, expand}
 use Rattle.search.specs.Rounds.{State, Stand, Moment, turned, inHand, choice, turn, settle, settled, advance, run, moments}
 use Rattle.search.specs.Call.{Call, inForce, pairs, tables, jobOf}
 use Rattle.search.specs.Outcome.{routeAfter, logWord, logAfter}
-use Rattle.search.specs.Bounds.{maxFactor, maxKey}
+use Rattle.search.specs.Bounds.{maxKey}
 use Rattle.search.proofs.Facts.{InRange, Valid}
 use Rattle.search.proofs.Moves.{length-expand}
 use Rattle.search.proofs.Admitted.{admitted}
-use Rattle.search.proofs.Standing.{Ok, Good, Says, says-due, turn-ok, advance-good}
-use Rattle.search.proofs.Runs.{stuck≢due, finished≢due, advance-due, advance-over, run-due, run-over, moments-due, moments-over, run-suc, counts}
+use Rattle.search.proofs.Standing.{says-due, turn-ok, advance-good}
+use Rattle.search.proofs.Runs.{advance-due, advance-over, moments-due, moments-over, run-suc, counts}
 use Rattle.workspace.specs.declared.Size.{Size}
 use Rattle.workspace.specs.Layout.{verticesOf, graphOf, written}
 use Rattle.workspace.proofs.Holding.{holds-vertices, holds-graph, holds-ready, holds-written}

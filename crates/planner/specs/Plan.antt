@@ -3,7 +3,7 @@ use Prim.Native.Nat.{ℕ}
 use mathlib.Core.Path.{_≡_}
 use mathlib.Core.List.{List}
 use Rattle.search.specs.declared.Answer.{Answer}
-use Rattle.search.specs.Call.{Memory, Call}
+use Rattle.search.specs.Call.{Call}
 use Rattle.search.specs.Outcome.{answer, memoryAfter}
 use Rattle.search.specs.Guarantee.{Guaranteed}
 

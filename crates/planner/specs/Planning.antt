@@ -2,22 +2,13 @@
 use Prim.Native.Nat.{ℕ}
 use mathlib.Core.Path.{_≡_}
 use mathlib.Core.List.{List}
-use Rattle.graph.specs.Lists.{over}
 use Rattle.search.specs.declared.Answer.{Answer}
-use Rattle.search.specs.declared.Answer.the-variants as answers
 use Rattle.search.specs.Call.{Call}
 use Rattle.search.specs.Outcome.{answer, memoryAfter}
-use Rattle.admission.specs.declared.Verdict.{Verdict}
-use Rattle.admission.specs.declared.Verdict.the-variants.{Admitted, Refused}
 use Rattle.workspace.specs.declared.Size.{Size}
 use Rattle.planner.specs.declared.Query.{Query}
 use Rattle.planner.specs.Carried.{Asking}
 use Rattle.planner.specs.Reached.{Given}
-
--- the answer to a call that is refused; 0 at 0 stands where it is not
-abbrev pub refusalOf : Verdict → Answer
-refusalOf (Admitted v m) = answers.Refused 0 0
-refusalOf (Refused n p) = answers.Refused n p
 
 -- the call as the code has it
 pub record Lent (c : Call) (z : Size) (q : Query) (bytes anchor guides schedule route log work : List ℕ) : Type 0 where

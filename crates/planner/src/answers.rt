@@ -1,24 +1,12 @@
 // The answer to a planner call: refused, or the search begun, run and handed over.
-ghost use mathlib.Core.Path.{_≡_};
-ghost use Rattle.planner.specs.Planning.{refusalOf, Admission, Answers};
+ghost use Rattle.planner.specs.Planning.{Admission, Answers};
 use crate::Query;
 use crate::begin;
 use crate::finish;
 use crate::running;
-use admission::Verdict;
 use graph::Header;
 use search::Answer;
 use workspace::Size;
-
-// The answer to a call that is refused; number 0 stands for none.
-pub fn refused(verdict: Verdict) -> Answer
-    ensures { λ r. ⌜ r ≡ refusalOf verdict ⌝ }
-{
-    match verdict {
-        Verdict::Admitted(_, _) => Answer::Refused(0, 0),
-        Verdict::Refused(n, p) => Answer::Refused(n, p),
-    }
-}
 
 // The answer to a call that is not refused: the search begins, makes its turns, and is handed over.
 pub fn answer(
@@ -36,21 +24,23 @@ pub fn answer(
     requires { ⌜ Admission z q (now bytes) (now anchor) (now guides) (now schedule) (now route) (now log) (now work) ⌝ }
     ensures { λ r. ⌜ Answers z q (now (bytes .entry)) (now (anchor .entry)) (now (guides .entry)) (now (schedule .entry)) budget (now (route .entry)) (now (log .entry)) (now (work .entry)) r (now (route .exit)) (now (log .exit)) (now (work .exit)) ⌝ }
 {
-    let Header::Counts(_, _, at) = plan_check::header(bytes) else {
-        return Answer::Refused(0, 0);
-    };
-    let first = begin::begin(bytes, work, route, anchor, schedule, z, q, at);
-    let last = running::run(
-        work,
-        route,
-        log,
-        anchor,
-        guides,
-        schedule,
-        z,
-        q,
-        budget,
-        first,
-    );
-    finish::finish(route, schedule, z, last)
+    match plan_check::header(bytes) {
+        Header::Refused(n, p) => Answer::Refused(n, p),
+        Header::Counts(_, _, at) => {
+            let first = begin::begin(bytes, work, route, anchor, schedule, z, q, at);
+            let last = running::run(
+                work,
+                route,
+                log,
+                anchor,
+                guides,
+                schedule,
+                z,
+                q,
+                budget,
+                first,
+            );
+            finish::finish(route, schedule, z, last)
+        }
+    }
 }

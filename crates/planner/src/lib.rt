@@ -45,7 +45,7 @@ pub fn plan(
 ) -> Answer
     ensures { λ r. ⌜ Planned (callOf (now (bytes .entry)) start goal (now (anchor .entry)) (now (guides .entry)) «guide_count» (now (schedule .entry)) budget (now (route .entry)) (now (log .entry)) (now (work .entry))) r (now (route .exit)) (now (log .exit)) (now (work .exit)) ⌝ }
 {
-    let verdict = admission::decide(
+    match admission::decide(
         bytes,
         start,
         goal,
@@ -55,28 +55,29 @@ pub fn plan(
         schedule,
         route.len(),
         work.len(),
-    );
-    let Verdict::Admitted(vertices, edges) = verdict else {
-        return answers::refused(verdict);
-    };
-    let rounds = schedule::rounds(schedule);
-    let z = Size { vertices, edges };
-    let q = Query {
-        start,
-        goal,
-        guides: guide_count,
-        rounds,
-    };
-    answers::answer(
-        bytes,
-        anchor,
-        guides,
-        schedule,
-        budget,
-        z,
-        q,
-        route,
-        log,
-        work,
-    )
+    ) {
+        Verdict::Refused(n, p) => Answer::Refused(n, p),
+        Verdict::Admitted(vertices, edges) => {
+            let rounds = schedule::rounds(schedule);
+            let z = Size { vertices, edges };
+            let q = Query {
+                start,
+                goal,
+                guides: guide_count,
+                rounds,
+            };
+            answers::answer(
+                bytes,
+                anchor,
+                guides,
+                schedule,
+                budget,
+                z,
+                q,
+                route,
+                log,
+                work,
+            )
+        }
+    }
 }

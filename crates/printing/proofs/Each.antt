@@ -1,5 +1,4 @@
 -- Laws of the texts of a list's elements one after another: one more, none too many, and how far they reach.
--- Assumes nothing.
 use Prim.Native.Nat.{ℕ, zero, suc, _+_, _<_, _≤_, min}
 use native.Mathlib.Numerals.{add-one}
 use native.Mathlib.Omega.{arith}

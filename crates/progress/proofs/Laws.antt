@@ -1,5 +1,4 @@
 -- Laws of the record moved on: what that leaves is what a turn and a round's end make of the record, whose turn it is, and which count has room for one more.
--- Assumes nothing.
 use mathlib.Core.Path.{_≡_, refl}
 use mathlib.Core.Bool.{Bool, true, false, cond, not}
 use Prim.Native.Nat.{ℕ, _<_}

@@ -1,5 +1,4 @@
 -- Laws of the route in memory: its vertices are counted one by one, and what `keep` laid is read back.
--- Assumes nothing.
 use mathlib.Core.Path.{_≡_, refl, ap, _∙_}
 use mathlib.Core.Logic.{_≢_}
 use mathlib.Core.List.{List, [], _∷_, _++_, List·Memᴰ}

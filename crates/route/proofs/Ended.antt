@@ -1,5 +1,4 @@
 -- A round's end: what `keep` gives is the incumbent's cost and route memory that the search's definitions give.
--- Assumes nothing.
 use mathlib.Core.Path.{_≡_, refl, sym, ap, _∙_}
 use mathlib.Core.Logic.{_≢_}
 use mathlib.Core.Bool.{Bool, true, false, cond, _||_}

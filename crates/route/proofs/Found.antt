@@ -1,5 +1,4 @@
 -- Laws of the edge from one vertex to another: what is found among the edges of a vertex in work memory is that of the graph.
--- Assumes nothing.
 use mathlib.Core.Path.{_≡_, refl, sym, ap, _∙_}
 use mathlib.Core.Logic.{_≢_}
 use mathlib.Core.Bool.{Bool, true, false, cond, _&&_}

@@ -1,5 +1,4 @@
 -- Laws of the trace of predecessors: one vertex further back, and its number of vertices and its cost at each vertex, and at the end.
--- Assumes nothing.
 use mathlib.Core.Path.{_≡_, refl, sym, ap, _∙_}
 use mathlib.Core.Logic.{_≢_}
 use mathlib.Core.Bool.{Bool, true, false}

@@ -1,5 +1,4 @@
 -- Laws of the schedule in force: its numbers, row 10, its rounds and their factors.
--- Assumes nothing.
 use Prim.Native.Nat.{ℕ, zero, suc, _+_, _-_, _*_, _/_, _%_, _≤_, _<_}
 use native.Mathlib.Numerals.{add-one}
 use native.Mathlib.Omega.{arith}

@@ -1,5 +1,4 @@
 -- Law for the code of step 1: bounds of the key and the vertex that it names.
--- Assumes nothing.
 use Prim.Native.Nat.{ℕ, _*_}
 use mathlib.Core.Path.{_≡_}
 use mathlib.Core.Bool.{Bool, true, false, cond, _&&_}

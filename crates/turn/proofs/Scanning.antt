@@ -1,5 +1,4 @@
 -- Laws for the code that scans the vertices: bounds of keys, and the scan after s vertices.
--- Assumes nothing.
 use Prim.Native.Nat.{ℕ, _+_, _≤_, _<_}
 use mathlib.Core.Path.{_≡_, refl, sym, ap, _∙_}
 use mathlib.Core.Bool.{Bool, true, false, cond}

@@ -1,5 +1,4 @@
 -- Laws of first edge numbers, where the tails of the edges rise: which edges lie under a tail. How many words a graph has.
--- Assumes nothing.
 use mathlib.Core.Path.{_≡_, refl, ap, _∙_}
 use mathlib.Core.List.{List, [], _∷_, _++_, map}
 use Prim.Native.Nat.{ℕ, zero, suc, _+_, _*_, _≤_, _<_}

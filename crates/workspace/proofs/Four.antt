@@ -1,5 +1,4 @@
 -- Laws of the four words of each vertex: vertices laid over words are read back, and one of them stored is one of the list changed.
--- Assumes nothing.
 use mathlib.Core.Path.{_≡_, refl, sym, ap, _∙_}
 use mathlib.Core.Bool.{Bool, true, false, cond}
 use mathlib.Core.List.{List, [], _∷_, _++_}

@@ -1,5 +1,4 @@
 -- Laws of `written`: what it keeps and what it gives back, one change after another, and one vertex stored.
--- Assumes nothing.
 use mathlib.Core.Path.{_≡_, refl, sym, ap, _∙_}
 use mathlib.Core.List.{List, [], _∷_, _++_}
 use Prim.Native.Nat.{ℕ, zero, suc, _+_, _*_, _-_, _≤_, _<_}

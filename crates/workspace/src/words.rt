@@ -3,7 +3,6 @@ ghost use mathlib.Core.Path.{_≡_};
 ghost use mathlib.Core.Bool.{cond};
 ghost use Prim.Native.Nat.{_<_, _≤_, _+_, _*_};
 ghost use Rattle.workspace.specs.Layout.{base, hasMark, Room, withVertex, Fits};
-ghost use lib.ListN.{set};
 use crate::Size;
 use search::Vertex;
 

@@ -1,4 +1,4 @@
--- `main` meets its contract: the text fits its buffer. Assumes nothing.
+-- `main` meets its contract: the text fits its buffer.
 use Prim.Native.Nat.{ℕ, _≤_}
 use native.Mathlib.Omega.{arith}
 use mathlib.Core.Path.{sym}

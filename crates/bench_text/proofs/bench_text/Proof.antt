@@ -1,4 +1,4 @@
--- `bench_text` meets its contract: the job is read, and asked or refused. Assumes nothing.
+-- `bench_text` meets its contract: the job is read, and asked or refused.
 use mathlib.Core.Path.{sym, _∙_}
 use Rattle.job.specs.Printed.{textOf, benchText}
 use borrow.Author.Needs.{needs}

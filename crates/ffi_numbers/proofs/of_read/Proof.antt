@@ -1,11 +1,9 @@
--- `of_read` meets its contract. Assumes nothing.
+-- `of_read` meets its contract.
 use mathlib.Core.Path.{sym, ap}
 use Rattle.ffi_numbers.specs.Figures.{readFigures}
 use borrow.Author.Needs.{needs}
 use Rattle.ffi_numbers.proofs.of_read.Statement.{statement}
 use Rattle.ffi_numbers.proofs.of_read.Tie as tie
-use Rattle.ffi_numbers.proofs.of_read.Reads as reads
-use Rattle.ffi_numbers.proofs.of_read.Lts as lts
 
 enum-known-read : tie.Need-enum-known-read
 enum-known-read c = search needs

@@ -1,11 +1,9 @@
--- `of_written` meets its contract. Assumes nothing.
+-- `of_written` meets its contract.
 use mathlib.Core.Path.{sym, ap}
 use Rattle.ffi_numbers.specs.Figures.{writtenFigures}
 use borrow.Author.Needs.{needs}
 use Rattle.ffi_numbers.proofs.of_written.Statement.{statement}
 use Rattle.ffi_numbers.proofs.of_written.Tie as tie
-use Rattle.ffi_numbers.proofs.of_written.Reads as reads
-use Rattle.ffi_numbers.proofs.of_written.Lts as lts
 
 enum-known-written : tie.Need-enum-known-written
 enum-known-written c = search needs

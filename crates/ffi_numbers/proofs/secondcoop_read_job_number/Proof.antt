@@ -1,13 +1,9 @@
--- `secondcoop_read_job_number` meets its contract. Assumes nothing.
+-- `secondcoop_read_job_number` meets its contract.
 use mathlib.Core.Path.{ap, _∙_}
 use Rattle.ffi_numbers.specs.Figures.{readFigures}
 use borrow.Author.Needs.{needs}
 use Rattle.ffi_numbers.proofs.secondcoop_read_job_number.Statement.{statement}
 use Rattle.ffi_numbers.proofs.secondcoop_read_job_number.Tie as tie
-use Rattle.ffi_numbers.proofs.secondcoop_read_job_number.Reads as reads
-use Rattle.ffi_numbers.proofs.secondcoop_read_job_number.Lts as lts
-use Rattle.ffi_numbers.proofs.of_read.Reads as of-read-reads
-use Rattle.leb128_reader.proofs.read_job_number.Reads as read-job-number-reads
 
 read-job-number-requires : tie.Need-read-job-number-requires
 read-job-number-requires c κs = search needs

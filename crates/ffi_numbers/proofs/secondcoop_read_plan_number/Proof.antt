@@ -1,13 +1,9 @@
--- `secondcoop_read_plan_number` meets its contract. Assumes nothing.
+-- `secondcoop_read_plan_number` meets its contract.
 use mathlib.Core.Path.{ap, _∙_}
 use Rattle.ffi_numbers.specs.Figures.{readFigures}
 use borrow.Author.Needs.{needs}
 use Rattle.ffi_numbers.proofs.secondcoop_read_plan_number.Statement.{statement}
 use Rattle.ffi_numbers.proofs.secondcoop_read_plan_number.Tie as tie
-use Rattle.ffi_numbers.proofs.secondcoop_read_plan_number.Reads as reads
-use Rattle.ffi_numbers.proofs.secondcoop_read_plan_number.Lts as lts
-use Rattle.ffi_numbers.proofs.of_read.Reads as of-read-reads
-use Rattle.leb128_reader.proofs.read_plan_number.Reads as read-plan-number-reads
 
 read-plan-number-requires : tie.Need-read-plan-number-requires
 read-plan-number-requires c κs = search needs

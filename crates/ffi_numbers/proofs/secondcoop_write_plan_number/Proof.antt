@@ -1,13 +1,9 @@
--- `secondcoop_write_plan_number` meets its contract. Assumes nothing.
+-- `secondcoop_write_plan_number` meets its contract.
 use mathlib.Core.Path.{ap, _∙_}
 use Rattle.ffi_numbers.specs.Figures.{writtenFigures}
 use borrow.Author.Needs.{needs}
 use Rattle.ffi_numbers.proofs.secondcoop_write_plan_number.Statement.{statement}
 use Rattle.ffi_numbers.proofs.secondcoop_write_plan_number.Tie as tie
-use Rattle.ffi_numbers.proofs.secondcoop_write_plan_number.Reads as reads
-use Rattle.ffi_numbers.proofs.secondcoop_write_plan_number.Lts as lts
-use Rattle.ffi_numbers.proofs.of_written.Reads as of-written-reads
-use Rattle.leb128_writer.proofs.write_plan_number.Reads as write-plan-number-reads
 
 write-plan-number-requires : tie.Need-write-plan-number-requires
 write-plan-number-requires c κs = search needs

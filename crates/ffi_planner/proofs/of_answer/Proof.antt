@@ -1,12 +1,10 @@
--- `of_answer` meets its contract. Assumes nothing.
+-- `of_answer` meets its contract.
 use mathlib.Core.Path.{sym, ap}
 use Rattle.search.specs.Outcome.{figures}
 use Rattle.ffi_planner.specs.Calls.{endingNumber, eight, answerFigures}
 use borrow.Author.Needs.{needs}
 use Rattle.ffi_planner.proofs.of_answer.Statement.{statement}
 use Rattle.ffi_planner.proofs.of_answer.Tie as tie
-use Rattle.ffi_planner.proofs.of_answer.Reads as reads
-use Rattle.ffi_planner.proofs.of_answer.Lts as lts
 
 enum-known-answer : tie.Need-enum-known-answer
 enum-known-answer c = search needs

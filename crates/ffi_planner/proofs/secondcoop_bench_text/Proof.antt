@@ -1,10 +1,7 @@
--- `secondcoop_bench_text` meets its contract: that of `bench_text`. Assumes nothing.
+-- `secondcoop_bench_text` meets its contract: that of `bench_text`.
 use borrow.Author.Needs.{needs}
 use Rattle.ffi_planner.proofs.secondcoop_bench_text.Statement.{statement}
 use Rattle.ffi_planner.proofs.secondcoop_bench_text.Tie as tie
-use Rattle.ffi_planner.proofs.secondcoop_bench_text.Reads as reads
-use Rattle.ffi_planner.proofs.secondcoop_bench_text.Lts as lts
-use Rattle.bench_text.proofs.bench_text.Reads as bench-text-reads
 
 bench-text-requires : tie.Need-bench-text-requires
 bench-text-requires c κs = search needs

@@ -1,12 +1,8 @@
--- `secondcoop_plan` meets its contract: the planner call's own. Assumes nothing.
+-- `secondcoop_plan` meets its contract: the planner call's own.
 use Rattle.ffi_planner.proofs.Handing.{exported}
 use borrow.Author.Needs.{needs}
 use Rattle.ffi_planner.proofs.secondcoop_plan.Statement.{statement}
 use Rattle.ffi_planner.proofs.secondcoop_plan.Tie as tie
-use Rattle.ffi_planner.proofs.secondcoop_plan.Reads as reads
-use Rattle.ffi_planner.proofs.secondcoop_plan.Lts as lts
-use Rattle.ffi_planner.proofs.of_answer.Reads as of-answer-reads
-use Rattle.planner.proofs.plan.Reads as plan-reads
 
 plan-requires : tie.Need-plan-requires
 plan-requires c κs = search needs

@@ -1,11 +1,9 @@
--- `of_count` meets its contract. Assumes nothing.
+-- `of_count` meets its contract.
 use mathlib.Core.Path.{sym, ap}
 use Rattle.ffi_plans.specs.Figures.{countFigures}
 use borrow.Author.Needs.{needs}
 use Rattle.ffi_plans.proofs.of_count.Statement.{statement}
 use Rattle.ffi_plans.proofs.of_count.Tie as tie
-use Rattle.ffi_plans.proofs.of_count.Reads as reads
-use Rattle.ffi_plans.proofs.of_count.Lts as lts
 
 enum-known-written : tie.Need-enum-known-written
 enum-known-written c = search needs

@@ -1,11 +1,9 @@
--- `of_plan` meets its contract. Assumes nothing.
+-- `of_plan` meets its contract.
 use mathlib.Core.Path.{sym, ap}
 use Rattle.ffi_plans.specs.Figures.{planFigures}
 use borrow.Author.Needs.{needs}
 use Rattle.ffi_plans.proofs.of_plan.Statement.{statement}
 use Rattle.ffi_plans.proofs.of_plan.Tie as tie
-use Rattle.ffi_plans.proofs.of_plan.Reads as reads
-use Rattle.ffi_plans.proofs.of_plan.Lts as lts
 
 enum-known-read : tie.Need-enum-known-read
 enum-known-read c = search needs

@@ -1,14 +1,10 @@
--- `secondcoop_read_plan` meets its contract. Assumes nothing.
+-- `secondcoop_read_plan` meets its contract.
 use mathlib.Core.Path.{ap, _∙_}
 use Rattle.graph.specs.Lists.{tailOf, headOf, costOf, listAfter}
 use Rattle.ffi_plans.specs.Figures.{planFigures}
 use borrow.Author.Needs.{needs}
 use Rattle.ffi_plans.proofs.secondcoop_read_plan.Statement.{statement}
 use Rattle.ffi_plans.proofs.secondcoop_read_plan.Tie as tie
-use Rattle.ffi_plans.proofs.secondcoop_read_plan.Reads as reads
-use Rattle.ffi_plans.proofs.secondcoop_read_plan.Lts as lts
-use Rattle.ffi_plans.proofs.of_plan.Reads as of-plan-reads
-use Rattle.plan_reader.proofs.read.Reads as read-reads
 
 read-requires : tie.Need-read-requires
 read-requires c κs = search needs

@@ -1,14 +1,10 @@
--- `secondcoop_write_plan` meets its contract. Assumes nothing.
+-- `secondcoop_write_plan` meets its contract.
 use mathlib.Core.Path.{ap, _∙_}
 use Rattle.graph.specs.Lists.{outAfter}
 use Rattle.ffi_plans.specs.Figures.{countFigures}
 use borrow.Author.Needs.{needs}
 use Rattle.ffi_plans.proofs.secondcoop_write_plan.Statement.{statement}
 use Rattle.ffi_plans.proofs.secondcoop_write_plan.Tie as tie
-use Rattle.ffi_plans.proofs.secondcoop_write_plan.Reads as reads
-use Rattle.ffi_plans.proofs.secondcoop_write_plan.Lts as lts
-use Rattle.ffi_plans.proofs.of_count.Reads as of-count-reads
-use Rattle.plan_writer.proofs.write.Reads as write-reads
 
 write-requires : tie.Need-write-requires
 write-requires c κs = search needs

@@ -1,4 +1,4 @@
--- `read` meets its contract: its length, its front, its plan, its tables. Assumes nothing.
+-- `read` meets its contract: its length, its front, its plan, its tables.
 use mathlib.Core.Path.{sym, ap, _∙_}
 use borrow.Author.Tests.{lt-ltb, le-ltb}
 use Rattle.job.specs.Reading.{planOf, afterPlan, afterFront, jobRead}

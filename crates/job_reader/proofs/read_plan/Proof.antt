@@ -1,4 +1,4 @@
--- `read_plan` meets its contract, by the plan's cases. Assumes nothing.
+-- `read_plan` meets its contract, by the plan's cases.
 use Rattle.job.specs.Reading.{afterPlan}
 use borrow.Author.Needs.{needs}
 use Rattle.job_reader.proofs.read_plan.Statement.{statement}

@@ -1,4 +1,4 @@
--- `read_tables` meets its contract: V and M, then the tables' end. Assumes nothing.
+-- `read_tables` meets its contract: V and M, then the tables' end.
 use Prim.Native.Nat.{_+_, _≤_}
 use native.Mathlib.Omega.{arith}
 use native.Mathlib.Nat.{mul-le-mul-left}

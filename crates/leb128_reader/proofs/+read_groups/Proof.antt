@@ -1,4 +1,4 @@
--- `read_groups` meets its contract, by the groups left, which fall with each call. Assumes nothing.
+-- `read_groups` meets its contract, by the groups left, which fall with each call.
 use native.Mathlib.Omega.{arith}
 use mathlib.Core.Path.{_≡_, sym, ap, _∙_}
 use Rattle.leb128.specs.Number.{read}

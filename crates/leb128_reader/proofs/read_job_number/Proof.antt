@@ -1,4 +1,4 @@
--- `read_job_number` meets its contract: it is the reader of five groups. Assumes nothing.
+-- `read_job_number` meets its contract: it is the reader of five groups.
 use borrow.Author.Needs.{needs}
 use Rattle.leb128.specs.Number.{jobGroups}
 use Rattle.leb128_reader.proofs.read_job_number.Statement.{statement}

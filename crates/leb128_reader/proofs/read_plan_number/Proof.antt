@@ -1,4 +1,4 @@
--- `read_plan_number` meets its contract: each answer follows the groups read so far. Assumes nothing.
+-- `read_plan_number` meets its contract: each answer follows the groups read so far.
 use Prim.Native.Nat.{_+_}
 use mathlib.Core.Path.{refl}
 use native.Mathlib.Omega.{arith}

@@ -1,4 +1,4 @@
--- `plan_number_len` meets its contract: the number's size says how many groups it has. Assumes nothing.
+-- `plan_number_len` meets its contract: the number's size says how many groups it has.
 use native.Mathlib.Omega.{arith}
 use mathlib.Core.Path.{sym, ap}
 use lib.ListN.{length}

@@ -1,4 +1,4 @@
--- `write_plan_number` meets its contract: by the number's size, its form is written where there is room. Assumes nothing.
+-- `write_plan_number` meets its contract: by the number's size, its form is written where there is room.
 use native.Mathlib.Omega.{arith}
 use native.Mathlib.Numerals.{add-one}
 use lib.ListN.{length-set}

@@ -1,4 +1,4 @@
--- `fill_first` meets its contract. Assumes nothing.
+-- `fill_first` meets its contract.
 use Prim.Native.Nat.{_-_}
 use mathlib.Core.Path.{_≡_, refl, sym, _∙_}
 use lib.ListN.{length, length-set, replicate}
@@ -7,8 +7,6 @@ use Rattle.loader.proofs.Counts.{fill-more, fill-done}
 use borrow.Author.Needs.{needs}
 use Rattle.loader.proofs.fill_first.Statement.{statement}
 use Rattle.loader.proofs.fill_first.Tie as tie
-use Rattle.loader.proofs.fill_first.Reads as reads
-use Rattle.loader.proofs.fill_first.Lts as lts
 
 abbrev Inv-loop : tie.InvT-loop
 Inv-loop work₀ from to j t₀ work t = (length work ≡ length work₀) × (sets work t (replicate (to - t) j) ≡ sets work₀ from (replicate (to - from) j))

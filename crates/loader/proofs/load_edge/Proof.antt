@@ -1,4 +1,4 @@
--- `load_edge` meets its contract: an edge, or nothing. Assumes nothing.
+-- `load_edge` meets its contract: an edge, or nothing.
 use mathlib.Core.Path.{sym, _∙_}
 use native.Mathlib.Omega.{arith}
 use lib.ListN.{length-set}
@@ -7,10 +7,6 @@ use Rattle.loader.proofs.Loading.{next-tail, loaded-none, loaded-one}
 use borrow.Author.Needs.{needs}
 use Rattle.loader.proofs.load_edge.Statement.{statement}
 use Rattle.loader.proofs.load_edge.Tie as tie
-use Rattle.loader.proofs.load_edge.Reads as reads
-use Rattle.loader.proofs.load_edge.Lts as lts
-use Rattle.plan_check.proofs.cursor.next_edge.Reads as next-edge-reads
-use Rattle.loader.proofs.fill_first.Reads as fill-first-reads
 
 next-edge-requires : tie.Need-next-edge-requires
 next-edge-requires c κs = search needs

@@ -1,4 +1,4 @@
--- `load_graph` meets its contract: the words after j edges, and after all. Assumes nothing.
+-- `load_graph` meets its contract: the words after j edges, and after all.
 use Prim.Native.Nat.{_-_}
 use mathlib.Core.Path.{refl, _∙_}
 use native.Mathlib.Omega.{arith}
@@ -8,11 +8,6 @@ use Rattle.loader.proofs.Loading.{Loading, loading-none, loading-next, 
 use borrow.Author.Needs.{needs}
 use Rattle.loader.proofs.load_graph.Statement.{statement}
 use Rattle.loader.proofs.load_graph.Tie as tie
-use Rattle.loader.proofs.load_graph.Reads as reads
-use Rattle.loader.proofs.load_graph.Lts as lts
-use Rattle.plan_check.proofs.cursor.first.Reads as first-reads
-use Rattle.loader.proofs.fill_first.Reads as fill-first-reads
-use Rattle.loader.proofs.load_edge.Reads as load-edge-reads
 
 abbrev Inv-loop : tie.InvT-loop
 Inv-loop bytes work₀ z at vertices edges cursor₀ j₀ work cursor j = Loading z bytes at work₀ work j cursor

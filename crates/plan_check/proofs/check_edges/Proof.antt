@@ -1,16 +1,10 @@
--- `check_edges` meets its contract: its answer is told from the cursor and the edges left. Assumes nothing.
-use Prim.Native.Nat.{ℕ}
+-- `check_edges` meets its contract: its answer is told from the cursor and the edges left.
 use mathlib.Core.Path.{sym, _∙_}
 use native.Mathlib.Omega.{arith}
 use borrow.Author.Needs.{needs}
-use Rattle.plan_check.proofs.NextEdge.{Told, told-first, told-next, told-fault, told-over, told-end}
+use Rattle.plan_check.proofs.NextEdge.{Told, told-first, told-next, told-refused, told-over, told-end}
 use Rattle.plan_check.proofs.check_edges.Statement.{statement}
 use Rattle.plan_check.proofs.check_edges.Tie as tie
-use Rattle.plan_check.proofs.check_edges.Reads as reads
-use Rattle.plan_check.proofs.check_edges.Lts as lts
-use Rattle.plan_check.proofs.cursor.first.Reads as first-reads
-use Rattle.plan_check.proofs.cursor.next_edge.Reads as next-edge-reads
-use Rattle.plan_check.proofs.edge_fault.Reads as edge-fault-reads
 
 abbrev Inv-loop : tie.InvT-loop
 Inv-loop bytes vertices edges at cursor₀ left₀ cursor left = Told vertices edges bytes at left cursor
@@ -27,19 +21,15 @@ loop-holds c = rw (c .first .ensures) (told-first _ _ _ _)
 next-edge-requires : tie.Need-next-edge-requires Inv-loop μ-loop
 next-edge-requires c κs = search needs
 
-enum-known-read : tie.Need-enum-known-read Inv-loop μ-loop
-enum-known-read c = search needs
+enum-known-next : tie.Need-enum-known-next Inv-loop μ-loop
+enum-known-next c = search needs
 
-enum-told : tie.Need-enum-told Inv-loop μ-loop
-enum-told c = search needs
-
-edge-fault-requires : tie.Need-edge-fault-requires Inv-loop μ-loop
-edge-fault-requires c κs = search needs
+enum-known-n : tie.Need-enum-known-n Inv-loop μ-loop
+enum-known-n c = search needs
 
 returns : tie.Need-returns Inv-loop μ-loop
 returns c =
-    told-fault _ _ _ _ _ _ (c .before .before .before .before .loop-test .taken) (c .before .before .before .before .before .loop .inv) _ _ _ _ (c .edge-fault .ensures) (c .before .enum-told .given .1)
-    (c .before .before .before .next-edge .ensures)
+    told-refused _ _ _ _ _ _ (c .before .before .before .before .loop-test .taken) (c .before .before .before .before .before .loop .inv) _ _ (sym (c .before .before .before .next-edge .ensures) ∙ c .before .n .given .1)
 
 sub-left : tie.Need-sub-left Inv-loop μ-loop
 sub-left c = omega arith
@@ -49,14 +39,15 @@ loop-less c = omega arith
 
 loop-again : tie.Need-loop-again Inv-loop μ-loop
 loop-again c =
-    told-next _ _ _ _ _ _ (c .before .before .before .before .loop-test .taken) (c .before .before .before .before .before .loop .inv) _ _
-    (sym (c .before .before .before .next-edge .ensures) ∙ c .before .read .given .1)
+    told-next _ _ _ _ _ _ (c .before .before .before .before .loop-test .taken) (c .before .before .before .before .before .loop .inv) _ _ (sym (c .before .before .before .next-edge .ensures) ∙ c .before .next .given .1)
 
 returns-2 : tie.Need-returns-2 Inv-loop μ-loop
-returns-2 c = told-over _ _ _ _ _ (c .before .before .loop .cursor) (omega (arith, c .before .loop-test)) (c .before .before .loop .inv) (c .if1 .taken)
+returns-2 c =
+    told-over _ _ _ _ _ (c .before .before .loop .cursor) (omega (arith, c .before .loop-test)) (c .before .before .loop .inv) (c .if1 .taken)
 
 returns-3 : tie.Need-returns-3 Inv-loop μ-loop
-returns-3 c = told-end _ _ _ _ _ (c .before .before .loop .cursor) (omega (arith, c .before .loop-test)) (c .before .before .loop .inv) (c .if1 .left)
+returns-3 c =
+    told-end _ _ _ _ _ (c .before .before .loop .cursor) (omega (arith, c .before .loop-test)) (c .before .before .loop .inv) (c .if1 .left)
 
 pub check-edges-spec : {M : Type 1} → statement M
 check-edges-spec =
@@ -67,9 +58,8 @@ check-edges-spec =
     first-requires
     loop-holds
     next-edge-requires
-    enum-known-read
-    enum-told
-    edge-fault-requires
+    enum-known-next
+    enum-known-n
     returns
     sub-left
     loop-less

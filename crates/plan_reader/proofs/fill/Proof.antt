@@ -1,16 +1,10 @@
--- `fill` meets its contract: a column after i edges, and after all. Assumes nothing.
-use Prim.Native.Nat.{ℕ, _-_, _≤_}
-use mathlib.Core.Path.{_≡_, refl, sym, _∙_}
+-- `fill` meets its contract: a column after i edges, and after all.
+use Prim.Native.Nat.{_-_}
 use native.Mathlib.Omega.{arith}
 use borrow.Author.Needs.{needs}
-use Rattle.graph.specs.Lists.{tailOf, headOf, costOf}
 use Rattle.plan_reader.proofs.Filling.{Filled, stepped, filled-none, filled-next, filled-all}
 use Rattle.plan_reader.proofs.fill.Statement.{statement}
 use Rattle.plan_reader.proofs.fill.Tie as tie
-use Rattle.plan_reader.proofs.fill.Reads as reads
-use Rattle.plan_reader.proofs.fill.Lts as lts
-use Rattle.plan_check.proofs.cursor.first.Reads as first-reads
-use Rattle.plan_reader.proofs.store.Reads as store-reads
 
 abbrev Inv-loop : tie.InvT-loop
 Inv-loop bytes vertices edges at tails₀ heads₀ costs₀ count cursor₀ i₀ tails heads costs cursor i =

@@ -1,9 +1,7 @@
--- `has_room` meets its contract. Assumes nothing.
+-- `has_room` meets its contract.
 use borrow.Author.Tests.{lt-leb, le-leb}
 use Rattle.plan_reader.proofs.has_room.Statement.{statement}
 use Rattle.plan_reader.proofs.has_room.Tie as tie
-use Rattle.plan_reader.proofs.has_room.Reads as reads
-use Rattle.plan_reader.proofs.has_room.Lts as lts
 
 returns : tie.Need-returns
 returns c = simp (lt-leb _ _ (c .if1 .taken))

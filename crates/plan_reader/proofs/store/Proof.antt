@@ -1,4 +1,4 @@
--- `store` meets its contract: an edge, or nothing. Assumes nothing.
+-- `store` meets its contract: an edge, or nothing.
 use mathlib.Core.Path.{sym, _∙_}
 use mathlib.Core.List.{[]}
 use Rattle.graph.specs.Lists.{tailOf, headOf, costOf}
@@ -6,9 +6,6 @@ use Rattle.plan_reader.proofs.Filling.{cursor-kept, list-kept, cursor-m
 use borrow.Author.Needs.{needs}
 use Rattle.plan_reader.proofs.store.Statement.{statement}
 use Rattle.plan_reader.proofs.store.Tie as tie
-use Rattle.plan_reader.proofs.store.Reads as reads
-use Rattle.plan_reader.proofs.store.Lts as lts
-use Rattle.plan_reader.proofs.checked.next_edge.Reads as next-edge-reads
 
 next-edge-requires : tie.Need-next-edge-requires
 next-edge-requires c κs = c .before .before .before .before .pre .1 .1 .1

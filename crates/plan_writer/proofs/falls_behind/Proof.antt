@@ -1,4 +1,4 @@
--- `falls_behind` meets its contract: both numbers fit, and their order is that of the tails, then of the heads. Assumes nothing.
+-- `falls_behind` meets its contract: both numbers fit, and their order is that of the tails, then of the heads.
 use Rattle.plan_writer.proofs.Measuring.{falls-as-one}
 use borrow.Author.Needs.{needs}
 use Rattle.plan_writer.proofs.falls_behind.Statement.{statement}

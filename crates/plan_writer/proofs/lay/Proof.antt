@@ -1,4 +1,4 @@
--- `lay` meets its contract: V and M are written at the front, since there is room, and then the edges. Assumes nothing.
+-- `lay` meets its contract: V and M are written at the front, since there is room, and then the edges.
 use native.Mathlib.Omega.{arith}
 use Rattle.plan_writer.proofs.Laying.{laid-none, laid-never, laid-number}
 use Rattle.plan_writer.proofs.Writer.{taken, vertices-small, vertices-room, count-small, count-room, edges-fit, plan-laid}

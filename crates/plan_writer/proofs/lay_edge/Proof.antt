@@ -1,4 +1,4 @@
--- `lay_edge` meets its contract: its three numbers are written one after another, since each has a form and there is room. Assumes nothing.
+-- `lay_edge` meets its contract: its three numbers are written one after another, since each has a form and there is room.
 use Rattle.plan_writer.proofs.Laying.{laid-none, laid-never, laid-number, rise-small, rise-room, head-room, cost-room, edge-laid}
 use borrow.Author.Needs.{needs}
 use Rattle.plan_writer.proofs.lay_edge.Statement.{statement}

@@ -1,4 +1,4 @@
--- `lay_edges` meets its contract. The loop's invariant: laying the rest from here gives what laying all gives. Assumes nothing.
+-- `lay_edges` meets its contract. The loop's invariant: laying the rest from here gives what laying all gives.
 use Prim.Native.Nat.{_≤_, _-_}
 use lib.ListN.{length}
 use Rattle.plan_writer.proofs.Laying.{Laying, laying-first, laying-end, edge-fits, laying-next}

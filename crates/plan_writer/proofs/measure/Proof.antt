@@ -1,4 +1,4 @@
--- `measure` meets its contract: V and the lists row by row, then the edges. Assumes nothing.
+-- `measure` meets its contract: V and the lists row by row, then the edges.
 use native.Mathlib.Omega.{arith}
 use mathlib.Core.Path.{_∙_}
 use lib.ListN.{length}

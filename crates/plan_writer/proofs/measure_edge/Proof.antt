@@ -1,4 +1,4 @@
--- `measure_edge` meets its contract: row by row, then the lengths of its three numbers. Assumes nothing.
+-- `measure_edge` meets its contract: row by row, then the lengths of its three numbers.
 use native.Mathlib.Omega.{arith}
 use mathlib.Core.Path.{sym, _∙_}
 use Rattle.plan_writer.proofs.Measuring.{edge-length, edge-few, tail-refused, head-refused, order-refused, cost-refused, edge-passed, not-falling}

@@ -1,4 +1,4 @@
--- `measure_edges` meets its contract. The loop's invariant: measuring the rest from the cursor gives what measuring all gives. Assumes nothing.
+-- `measure_edges` meets its contract. The loop's invariant: measuring the rest from the cursor gives what measuring all gives.
 use Prim.Native.Nat.{_≤_, _-_}
 use native.Mathlib.Omega.{arith}
 use mathlib.Core.Path.{sym, _∙_}

@@ -1,4 +1,4 @@
--- `write` meets its contract: what is refused is refused by the first pass, and else the bytes are laid where there is room. Assumes nothing.
+-- `write` meets its contract: what is refused is refused by the first pass, and else the bytes are laid where there is room.
 use Rattle.plan_writer.proofs.Writer.{answers-fault, plan-fits, answers-short, answers-count}
 use borrow.Author.Needs.{needs}
 use Rattle.plan_writer.proofs.write.Statement.{statement}

@@ -1,4 +1,4 @@
--- `put_answer` meets its contract, by the answer's cases. Assumes nothing.
+-- `put_answer` meets its contract, by the answer's cases.
 use Rattle.search.specs.Outcome.{figures}
 use Rattle.job.specs.Printed.{turns, ending, printed}
 use borrow.Author.Needs.{needs}

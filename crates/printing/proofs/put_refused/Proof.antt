@@ -1,4 +1,4 @@
--- `put_refused` meets its contract: one line. Assumes nothing.
+-- `put_refused` meets its contract: one line.
 use native.Mathlib.Omega.{arith}
 use Rattle.job.proofs.Lines.{refused-few}
 use borrow.Author.Needs.{needs}

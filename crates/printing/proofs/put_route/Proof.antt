@@ -1,4 +1,4 @@
--- `put_route` meets its contract: the turn lines, the route line, the end line. Assumes nothing.
+-- `put_route` meets its contract: the turn lines, the route line, the end line.
 use native.Mathlib.Omega.{arith}
 use Rattle.search.specs.Outcome.{figures}
 use Rattle.job.specs.Printed.{turns, ending, printed}

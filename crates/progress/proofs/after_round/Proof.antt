@@ -1,12 +1,9 @@
--- `after_round` meets its contract. Assumes nothing.
+-- `after_round` meets its contract.
 use mathlib.Core.Path.{_∙_}
 use Rattle.progress.proofs.Laws.{moved-round}
 use borrow.Author.Needs.{needs}
 use Rattle.progress.proofs.after_round.Statement.{statement}
 use Rattle.progress.proofs.after_round.Tie as tie
-use Rattle.progress.proofs.after_round.Reads as reads
-use Rattle.progress.proofs.after_round.Lts as lts
-use Rattle.progress.proofs.moved_on.Reads as moved-on-reads
 
 moved-on-requires : tie.Need-moved-on-requires
 moved-on-requires c κs = search needs

@@ -1,11 +1,9 @@
--- `counted` meets its contract. Assumes nothing.
+-- `counted` meets its contract.
 use native.Mathlib.Numerals.{add-one}
 use native.Mathlib.Omega.{arith}
 use Rattle.progress.specs.Moved.{counted}
 use Rattle.progress.proofs.counted.Statement.{statement}
 use Rattle.progress.proofs.counted.Tie as tie
-use Rattle.progress.proofs.counted.Reads as reads
-use Rattle.progress.proofs.counted.Lts as lts
 
 add-result : tie.Need-add-result
 add-result c = let h = rw (c .if1 .taken) at (c .before .pre) in omega arith

@@ -1,10 +1,8 @@
--- `first_turn` meets its contract. Assumes nothing.
+-- `first_turn` meets its contract.
 use borrow.Author.Tests.{eq-eqb, ne-eqb}
 use Rattle.search.specs.Rounds.{firstTurn}
 use Rattle.progress.proofs.first_turn.Statement.{statement}
 use Rattle.progress.proofs.first_turn.Tie as tie
-use Rattle.progress.proofs.first_turn.Reads as reads
-use Rattle.progress.proofs.first_turn.Lts as lts
 
 returns : tie.Need-returns
 unfolding firstTurn

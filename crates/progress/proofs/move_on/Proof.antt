@@ -1,6 +1,5 @@
 -- `move_on` meets its contract: a walk of its MIR, by hand. The borrow is opened, three fields are read and passed to covered functions, their results and the cost are stored, and the borrow is closed at the new record.
 -- Of `turn_after` and `counted` it knows their contracts alone.
--- Assumes nothing.
 use mathlib.Core.Path.{_≡_, refl, ap}
 use mathlib.Core.Bool.{Bool, cond, not}
 use Prim.Native.Nat.{ℕ, _<_, _^_}

@@ -1,6 +1,5 @@
 -- `moved_on` meets its contract: a walk of its MIR, by hand. The record is copied to a local, which is lent to `move_on` for a lifetime of the call, and is back at the last value that `move_on`'s contract names.
 -- Of `move_on` it knows the contract alone.
--- Assumes nothing.
 use mathlib.Core.Path.{_≡_, refl, sym, ap, subst}
 use mathlib.Core.Bool.{Bool, cond}
 use Prim.Native.Nat.{ℕ, _<_, _^_}

@@ -1,13 +1,10 @@
--- `next_turn` meets its contract. Assumes nothing.
+-- `next_turn` meets its contract.
 use native.Mathlib.Numerals.{add-one}
 use borrow.Author.Tests.{lt-ltb, le-ltb}
 use Rattle.search.specs.Rounds.{nextTurn}
 use borrow.Author.Needs.{needs}
 use Rattle.progress.proofs.next_turn.Statement.{statement}
 use Rattle.progress.proofs.next_turn.Tie as tie
-use Rattle.progress.proofs.next_turn.Reads as reads
-use Rattle.progress.proofs.next_turn.Lts as lts
-use Rattle.progress.proofs.first_turn.Reads as first-turn-reads
 
 add-result : tie.Need-add-result
 add-result c = search needs

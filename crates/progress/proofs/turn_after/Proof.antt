@@ -1,12 +1,8 @@
--- `turn_after` meets its contract. Assumes nothing.
+-- `turn_after` meets its contract.
 use Rattle.progress.proofs.Laws.{turn-restarted, turn-passed}
 use borrow.Author.Needs.{needs}
 use Rattle.progress.proofs.turn_after.Statement.{statement}
 use Rattle.progress.proofs.turn_after.Tie as tie
-use Rattle.progress.proofs.turn_after.Reads as reads
-use Rattle.progress.proofs.turn_after.Lts as lts
-use Rattle.progress.proofs.first_turn.Reads as first-turn-reads
-use Rattle.progress.proofs.next_turn.Reads as next-turn-reads
 
 first-turn-requires : tie.Need-first-turn-requires
 first-turn-requires c κs = search needs

@@ -1,10 +1,8 @@
--- `improves` meets its contract. Assumes nothing.
+-- `improves` meets its contract.
 use mathlib.Core.Path.{refl}
 use Rattle.route.proofs.Ended.{first-improves, later-improves}
 use Rattle.route.proofs.improves.Statement.{statement}
 use Rattle.route.proofs.improves.Tie as tie
-use Rattle.route.proofs.improves.Reads as reads
-use Rattle.route.proofs.improves.Lts as lts
 
 returns : tie.Need-returns
 returns c = first-improves _ _ (c .if1 .taken)

@@ -1,4 +1,4 @@
--- `keep` meets its contract. Assumes nothing.
+-- `keep` meets its contract.
 use mathlib.Core.Path.{sym, ap, _∙_}
 use Rattle.search.specs.declared.RouteCost.{RouteCost}
 use Rattle.search.specs.Rounds.{improves}
@@ -8,11 +8,6 @@ use Rattle.route.proofs.Ended.{keeps-new, keeps-old, broken-not}
 use borrow.Author.Needs.{needs}
 use Rattle.route.proofs.keep.Statement.{statement}
 use Rattle.route.proofs.keep.Tie as tie
-use Rattle.route.proofs.keep.Reads as reads
-use Rattle.route.proofs.keep.Lts as lts
-use Rattle.route.proofs.improves.Reads as improves-reads
-use Rattle.route.proofs.laying.lay.Reads as lay-reads
-use Rattle.route.proofs.trace.from_goal.Reads as from-goal-reads
 
 from-goal-requires : tie.Need-from-goal-requires
 from-goal-requires c κs = search needs

@@ -1,4 +1,4 @@
--- `route_length` meets its contract. Assumes nothing.
+-- `route_length` meets its contract.
 use Prim.Native.Nat.{_-_}
 use borrow.Author.Tests.{eqb-true, eqb-false, not-true, not-false}
 use borrow.Author.Needs.{needs}
@@ -6,8 +6,6 @@ use Rattle.search.specs.Job.{routeEnd}
 use Rattle.route.proofs.Counted.{Counting, counting-none, counting-more, counting-end, counting-all}
 use Rattle.route.proofs.route_length.Statement.{statement}
 use Rattle.route.proofs.route_length.Tie as tie
-use Rattle.route.proofs.route_length.Reads as reads
-use Rattle.route.proofs.route_length.Lts as lts
 
 abbrev Inv-loop : tie.InvT-loop
 Inv-loop route v n₀ n = Counting route v n

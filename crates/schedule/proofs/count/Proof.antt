@@ -1,4 +1,4 @@
--- `count` meets its contract. Assumes nothing.
+-- `count` meets its contract.
 use Rattle.schedule.proofs.InForce.{count-house, count-given}
 use Rattle.schedule.proofs.count.Statement.{statement}
 use Rattle.schedule.proofs.count.Tie as tie

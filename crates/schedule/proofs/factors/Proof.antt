@@ -1,4 +1,4 @@
--- `factors` meets its contract: both are numbers of the schedule in force. Assumes nothing.
+-- `factors` meets its contract: both are numbers of the schedule in force.
 use native.Mathlib.Omega.{arith}
 use Rattle.schedule.proofs.InForce.{pairs-within, pairs-at}
 use borrow.Author.Needs.{needs}

@@ -1,4 +1,4 @@
--- `number` meets its contract: the house schedule is the one of the definitions. Assumes nothing.
+-- `number` meets its contract: the house schedule is the one of the definitions.
 use Prim.Native.Nat.{ℕ}
 use mathlib.Core.Path.{sym, ap}
 use mathlib.Core.List.{List}

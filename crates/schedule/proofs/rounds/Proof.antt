@@ -1,4 +1,4 @@
--- `rounds` meets its contract: two numbers for each round. Assumes nothing.
+-- `rounds` meets its contract: two numbers for each round.
 use Prim.Native.Nat.{ℕ, _/_}
 use mathlib.Core.Path.{sym, ap, _∙_}
 use native.Mathlib.Omega.{arith}

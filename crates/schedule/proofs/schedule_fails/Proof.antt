@@ -1,4 +1,4 @@
--- `schedule_fails` meets its contract: no number before i is unfit. Assumes nothing.
+-- `schedule_fails` meets its contract: no number before i is unfit.
 use Prim.Native.Nat.{_-_}
 use mathlib.Core.Path.{sym, _∙_}
 use native.Mathlib.Omega.{arith}

@@ -1,4 +1,4 @@
--- `unfit` meets its contract. Assumes nothing.
+-- `unfit` meets its contract.
 use Rattle.schedule.proofs.InForce.{unfit-low, unfit-high, unfit-last, unfit-next}
 use borrow.Author.Needs.{needs}
 use Rattle.schedule.proofs.unfit.Statement.{statement}

@@ -1,4 +1,4 @@
--- `candidate` meets its contract. Assumes nothing.
+-- `candidate` meets its contract.
 use mathlib.Core.Path.{sym}
 use Rattle.turn.proofs.Scanning.{within-nobody}
 use Rattle.turn.proofs.Keys.{sheet-fits, candidate-none, candidate-part}
@@ -6,9 +6,6 @@ use native.Mathlib.Omega.{arith}
 use borrow.Author.Needs.{needs}
 use Rattle.turn.proofs.candidate.Statement.{statement}
 use Rattle.turn.proofs.candidate.Tie as tie
-use Rattle.turn.proofs.candidate.Reads as reads
-use Rattle.turn.proofs.candidate.Lts as lts
-use Rattle.turn.proofs.scan.least.Reads as least-reads
 
 returns : tie.Need-returns
 returns c =

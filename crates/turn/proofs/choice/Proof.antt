@@ -1,13 +1,9 @@
--- `choice` meets its contract. Assumes nothing.
+-- `choice` meets its contract.
 use Rattle.turn.specs.Asked.{choiceOf}
 use Rattle.turn.proofs.Keys.{choose-inside}
 use borrow.Author.Needs.{needs}
 use Rattle.turn.proofs.choice.Statement.{statement}
 use Rattle.turn.proofs.choice.Tie as tie
-use Rattle.turn.proofs.choice.Reads as reads
-use Rattle.turn.proofs.choice.Lts as lts
-use Rattle.turn.proofs.candidate.Reads as candidate-reads
-use Rattle.turn.proofs.rules.choose.Reads as choose-reads
 
 candidate-requires : tie.Need-candidate-requires
 candidate-requires c κs = search needs

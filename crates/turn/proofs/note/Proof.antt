@@ -1,12 +1,10 @@
--- `note` meets its contract. Assumes nothing.
+-- `note` meets its contract.
 use mathlib.Core.Path.{sym}
 use lib.Seq.{set-out}
 use Rattle.turn.specs.Asked.{choiceWord}
 use borrow.Author.Needs.{needs}
 use Rattle.turn.proofs.note.Statement.{statement}
 use Rattle.turn.proofs.note.Tie as tie
-use Rattle.turn.proofs.note.Reads as reads
-use Rattle.turn.proofs.note.Lts as lts
 
 mul-log : tie.Need-mul-log
 mul-log c = search needs

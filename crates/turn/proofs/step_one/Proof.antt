@@ -1,13 +1,8 @@
--- `step_one` meets its contract. Assumes nothing.
+-- `step_one` meets its contract.
 use Rattle.turn.proofs.Due.{due-within}
 use borrow.Author.Needs.{needs}
 use Rattle.turn.proofs.step_one.Statement.{statement}
 use Rattle.turn.proofs.step_one.Tie as tie
-use Rattle.turn.proofs.step_one.Reads as reads
-use Rattle.turn.proofs.step_one.Lts as lts
-use Rattle.turn.proofs.scan.least.Reads as least-reads
-use Rattle.turn.proofs.rules.step_one.Reads as step-one-reads
-use Rattle.workspace.proofs.vertex_words.load.Reads as load-reads
 
 load-requires : tie.Need-load-requires
 load-requires c κs = search needs

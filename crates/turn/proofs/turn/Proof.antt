@@ -1,12 +1,7 @@
--- `turn` meets its contract. Assumes nothing.
+-- `turn` meets its contract.
 use borrow.Author.Needs.{needs}
 use Rattle.turn.proofs.turn.Statement.{statement}
 use Rattle.turn.proofs.turn.Tie as tie
-use Rattle.turn.proofs.turn.Reads as reads
-use Rattle.turn.proofs.turn.Lts as lts
-use Rattle.turn.proofs.expansion.expand.Reads as expand-reads
-use Rattle.turn.proofs.choice.Reads as choice-reads
-use Rattle.turn.proofs.note.Reads as note-reads
 
 choice-requires : tie.Need-choice-requires
 choice-requires c κs = search needs

@@ -1,4 +1,4 @@
--- `anchor_verdict` meets its contract. Assumes nothing.
+-- `anchor_verdict` meets its contract.
 use Rattle.admission.proofs.Goal.{goal-fails, goal-holds}
 use borrow.Author.Needs.{needs}
 use Rattle.admission.proofs.consistency.anchor_verdict.Statement.{statement}

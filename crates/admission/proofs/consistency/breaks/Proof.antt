@@ -1,4 +1,4 @@
--- `breaks` meets its contract: the sum is taken in 64 bits. Assumes nothing.
+-- `breaks` meets its contract: the sum is taken in 64 bits.
 use mathlib.Core.Path.{refl}
 use native.Mathlib.Omega.{arith}
 use Rattle.admission.specs.Tried.{breaks}

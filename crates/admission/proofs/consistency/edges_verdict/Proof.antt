@@ -1,4 +1,4 @@
--- `edges_verdict` meets its contract: the rule holds on the edges before i. Assumes nothing.
+-- `edges_verdict` meets its contract: the rule holds on the edges before i.
 use Prim.Native.Nat.{_-_}
 use native.Mathlib.Omega.{arith}
 use borrow.Author.Needs.{needs}

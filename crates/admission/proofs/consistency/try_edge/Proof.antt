@@ -1,4 +1,4 @@
--- `try_edge` meets its contract. Assumes nothing.
+-- `try_edge` meets its contract.
 use mathlib.Core.Path.{sym, _∙_}
 use native.Mathlib.Omega.{arith}
 use Rattle.admission.proofs.AnchorRule.{read-within, tried-fault, tried-breaks, tried-holds}

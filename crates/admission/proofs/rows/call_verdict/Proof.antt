@@ -1,4 +1,4 @@
--- `call_verdict` meets its contract: its rows downwards. Assumes nothing.
+-- `call_verdict` meets its contract: its rows downwards.
 use lib.ListN.{length}
 use Rattle.admission.proofs.Verdicts.{ends-hold, tables-hold, call-8, call-9, call-10, call-11, call-last}
 use borrow.Author.Needs.{needs}

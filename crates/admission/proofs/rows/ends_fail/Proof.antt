@@ -1,4 +1,4 @@
--- `ends_fail` meets its contract. Assumes nothing.
+-- `ends_fail` meets its contract.
 use borrow.Author.Tests.{lt-ltb, le-ltb}
 use Rattle.admission.proofs.rows.ends_fail.Statement.{statement}
 use Rattle.admission.proofs.rows.ends_fail.Tie as tie

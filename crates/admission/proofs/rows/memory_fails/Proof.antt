@@ -1,4 +1,4 @@
--- `memory_fails` meets its contract. Assumes nothing.
+-- `memory_fails` meets its contract.
 use borrow.Author.Tests.{lt-ltb, le-ltb}
 use borrow.Author.Needs.{needs}
 use Rattle.admission.proofs.rows.memory_fails.Statement.{statement}

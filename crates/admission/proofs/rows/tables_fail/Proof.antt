@@ -1,4 +1,4 @@
--- `tables_fail` meets its contract. Assumes nothing.
+-- `tables_fail` meets its contract.
 use native.Mathlib.Nat.{mul-le-mul-right}
 use native.Mathlib.Omega.{arith}
 use borrow.Author.Tests.{lt-ltb, le-ltb, eq-eqb, ne-eqb}

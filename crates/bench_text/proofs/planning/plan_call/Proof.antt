@@ -1,4 +1,4 @@
--- `plan_call` meets its contract: the call, then its text. Assumes nothing.
+-- `plan_call` meets its contract: the call, then its text.
 use Rattle.job.specs.Asked.{zeros, callWith}
 use Rattle.bench_text.proofs.Calls.{handed-text}
 use borrow.Author.Needs.{needs}

@@ -1,4 +1,4 @@
--- `plan_job` meets its contract: the factors and the tables stand at the arrays' fronts. Assumes nothing.
+-- `plan_job` meets its contract: the factors and the tables stand at the arrays' fronts.
 use native.Mathlib.Omega.{arith}
 use Rattle.bench_text.proofs.Calls.{factors-few, numbers-few, factors-stored, tables-stored}
 use borrow.Author.Needs.{needs}

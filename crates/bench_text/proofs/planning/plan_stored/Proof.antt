@@ -1,4 +1,4 @@
--- `plan_stored` meets its contract: the tables are taken apart, and the call is the job's. Assumes nothing.
+-- `plan_stored` meets its contract: the tables are taken apart, and the call is the job's.
 use mathlib.Core.Path.{sym}
 use lib.Seq.{length-take-le}
 use Rattle.job.proofs.Accepted.{accepted-ready}

@@ -1,4 +1,4 @@
--- `read_ends` meets its contract: start, goal and budget, one after another. Assumes nothing.
+-- `read_ends` meets its contract: start, goal and budget, one after another.
 use Rattle.job.specs.Front.{ends}
 use Rattle.job.proofs.Following.{follows, follows-none}
 use borrow.Author.Needs.{needs}

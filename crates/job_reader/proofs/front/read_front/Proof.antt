@@ -1,4 +1,4 @@
--- `read_front` meets its contract: the plan's place, then what follows. Assumes nothing.
+-- `read_front` meets its contract: the plan's place, then what follows.
 use mathlib.Core.Path.{sym, _∙_}
 use native.Mathlib.Omega.{arith}
 use borrow.Author.Tests.{lt-ltb, le-ltb}

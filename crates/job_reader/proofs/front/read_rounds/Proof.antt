@@ -1,4 +1,4 @@
--- `read_rounds` meets its contract: rounds, factors and the guide count, one after another. Assumes nothing.
+-- `read_rounds` meets its contract: rounds, factors and the guide count, one after another.
 use mathlib.Core.Path.{refl}
 use borrow.Author.Tests.{lt-ltb, le-ltb}
 use Rattle.job.specs.Front.{rounds}

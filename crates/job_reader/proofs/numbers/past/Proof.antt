@@ -1,4 +1,4 @@
--- `past` meets its contract. The loop's invariant: the numbers left end where all do. Assumes nothing.
+-- `past` meets its contract. The loop's invariant: the numbers left end where all do.
 use mathlib.Core.Path.{_≡_, refl, sym, _∙_}
 use native.Mathlib.Omega.{arith}
 use borrow.Author.Needs.{needs}

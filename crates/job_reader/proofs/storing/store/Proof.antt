@@ -1,4 +1,4 @@
--- `store` meets its contract. The loop's invariant: what is to come, stored from here on, gives what the whole gives. Assumes nothing.
+-- `store` meets its contract. The loop's invariant: what is to come, stored from here on, gives what the whole gives.
 use Prim.Native.Nat.{_-_}
 use native.Mathlib.Omega.{arith}
 use lib.Seq.{sets}

@@ -1,4 +1,4 @@
--- `store_one` meets its contract. Assumes nothing.
+-- `store_one` meets its contract.
 use mathlib.Core.Path.{sym, _∙_}
 use borrow.Author.Needs.{needs}
 use Rattle.job_reader.proofs.storing.store_one.Statement.{statement}

@@ -1,9 +1,7 @@
--- `first` meets its contract. Assumes nothing.
+-- `first` meets its contract.
 use borrow.Author.Needs.{needs}
 use Rattle.plan_check.proofs.cursor.first.Statement.{statement}
 use Rattle.plan_check.proofs.cursor.first.Tie as tie
-use Rattle.plan_check.proofs.cursor.first.Reads as reads
-use Rattle.plan_check.proofs.cursor.first.Lts as lts
 
 returns : tie.Need-returns
 returns c = search needs

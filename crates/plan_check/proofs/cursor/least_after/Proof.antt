@@ -1,9 +1,7 @@
--- `least_after` meets its contract. Assumes nothing.
+-- `least_after` meets its contract.
 use borrow.Author.Tests.{eq-eqb, ne-eqb}
 use Rattle.plan_check.proofs.cursor.least_after.Statement.{statement}
 use Rattle.plan_check.proofs.cursor.least_after.Tie as tie
-use Rattle.plan_check.proofs.cursor.least_after.Reads as reads
-use Rattle.plan_check.proofs.cursor.least_after.Lts as lts
 
 returns : tie.Need-returns
 returns c = simp (eq-eqb _ _ (c .if1 .taken))

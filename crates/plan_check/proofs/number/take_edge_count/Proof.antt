@@ -1,14 +1,11 @@
--- `take_edge_count` meets its contract: rows 1 and 3. Assumes nothing.
+-- `take_edge_count` meets its contract: rows 1 and 3.
 use mathlib.Core.Path.{sym, _∙_}
-use borrow.Author.Tests.{lt-ltb, le-ltb, le-leb, lt-leb, eq-eqb, ne-eqb}
+use borrow.Author.Tests.{lt-ltb, le-ltb}
 use Rattle.graph.specs.Rows.{through, edgeCountRows}
 use Rattle.graph.proofs.Rows.{take-malformed, take-value}
 use borrow.Author.Needs.{needs}
 use Rattle.plan_check.proofs.number.take_edge_count.Statement.{statement}
 use Rattle.plan_check.proofs.number.take_edge_count.Tie as tie
-use Rattle.plan_check.proofs.number.take_edge_count.Reads as reads
-use Rattle.plan_check.proofs.number.take_edge_count.Lts as lts
-use Rattle.leb128_reader.proofs.read_plan_number.Reads as read-plan-number-reads
 
 read-plan-number-requires : tie.Need-read-plan-number-requires
 read-plan-number-requires c κs = search needs

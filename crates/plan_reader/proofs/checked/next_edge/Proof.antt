@@ -1,14 +1,11 @@
--- `next_edge` meets its contract: three numbers that pass their rows. Assumes nothing.
+-- `next_edge` meets its contract: three numbers that pass their rows.
 use mathlib.Core.Path.{sym, _∙_, refl}
 use native.Mathlib.Omega.{arith}
 use Rattle.plan_reader.proofs.Passing.{tail-there, tail-taken, head-there, head-taken, cost-there, cost-taken}
-use Rattle.plan_check.proofs.NextEdge.{taken-tail, taken-head, step-edge}
+use Rattle.plan_check.proofs.NextEdge.{taken-tail, taken-head, edge-taken}
 use borrow.Author.Needs.{needs}
 use Rattle.plan_reader.proofs.checked.next_edge.Statement.{statement}
 use Rattle.plan_reader.proofs.checked.next_edge.Tie as tie
-use Rattle.plan_reader.proofs.checked.next_edge.Reads as reads
-use Rattle.plan_reader.proofs.checked.next_edge.Lts as lts
-use Rattle.leb128_reader.proofs.read_plan_number.Reads as read-plan-number-reads
 
 read-plan-number-requires : tie.Need-read-plan-number-requires
 read-plan-number-requires c κs = search needs
@@ -70,7 +67,7 @@ returns-4 c =
     let h = k .before .before .before .before .pre in
     let a = sym (k .before .before .read-plan-number .ensures) ∙ k .difference .given .1 in
     let b = sym (c .before .before .before .before .before .before .before .read-plan-number2 .ensures) ∙ c .before .before .before .before .before .head .given .1 in
-    step-edge _ _ _ _ _ _ _ _ _ _ (tail-taken _ _ _ h _ _ a) refl (head-taken _ _ _ h _ _ a _ _ b)
+    edge-taken _ _ _ _ _ _ _ _ _ _ (tail-taken _ _ _ h _ _ a) refl (head-taken _ _ _ h _ _ a _ _ b)
     (cost-taken _ _ _ h _ _ a _ _ b _ _ (sym (c .before .before .before .read-plan-number3 .ensures) ∙ c .before .cost .given .1))
 
 pub next-edge-spec : {M : Type 1} → statement M

@@ -1,14 +1,8 @@
--- `begin` meets its contract: the loaded graph, the first vertices, and step 1. Assumes nothing.
+-- `begin` meets its contract: the loaded graph, the first vertices, and step 1.
 use borrow.Author.Needs.{needs}
 use Rattle.planner.proofs.Beginning.{load-asks, first-asks, settle-asks, begins-there}
 use Rattle.planner.proofs.begin.begin.Statement.{statement}
 use Rattle.planner.proofs.begin.begin.Tie as tie
-use Rattle.planner.proofs.begin.begin.Reads as reads
-use Rattle.planner.proofs.begin.begin.Lts as lts
-use Rattle.planner.proofs.rounds.settle.Reads as settle-reads
-use Rattle.progress.proofs.at_first.Reads as at-first-reads
-use Rattle.loader.proofs.load_graph.Reads as load-graph-reads
-use Rattle.workspace.proofs.round_start.at_first.Reads as opening-at-first-reads
 
 load-graph-requires : tie.Need-load-graph-requires
 load-graph-requires c κs = load-asks _ _ _ _ _ _ _ _ _ (c .before .before .before .before .before .before .pre .called)

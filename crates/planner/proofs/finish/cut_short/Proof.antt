@@ -1,11 +1,8 @@
--- `cut_short` meets its contract. Assumes nothing.
+-- `cut_short` meets its contract.
 use borrow.Author.Needs.{needs}
 use Rattle.planner.proofs.Finishing.{cut-first, cut-later}
 use Rattle.planner.proofs.finish.cut_short.Statement.{statement}
 use Rattle.planner.proofs.finish.cut_short.Tie as tie
-use Rattle.planner.proofs.finish.cut_short.Reads as reads
-use Rattle.planner.proofs.finish.cut_short.Lts as lts
-use Rattle.planner.proofs.finish.summary.Reads as summary-reads
 
 returns : tie.Need-returns
 returns c = cut-first _ _ _ _ (c .if1 .taken)

@@ -1,12 +1,8 @@
--- `finish` meets its contract, by what step 1 said at last. Assumes nothing.
+-- `finish` meets its contract, by what step 1 said at last.
 use borrow.Author.Needs.{needs}
 use Rattle.planner.proofs.Finishing.{end-figured, some-round, answers-none, answers-route, answers-cut}
 use Rattle.planner.proofs.finish.finish.Statement.{statement}
 use Rattle.planner.proofs.finish.finish.Tie as tie
-use Rattle.planner.proofs.finish.finish.Reads as reads
-use Rattle.planner.proofs.finish.finish.Lts as lts
-use Rattle.planner.proofs.finish.cut_short.Reads as cut-short-reads
-use Rattle.planner.proofs.finish.summary.Reads as summary-reads
 
 enum-told : tie.Need-enum-told
 enum-told c = search needs

@@ -1,13 +1,9 @@
--- `summary` meets its contract. Assumes nothing.
+-- `summary` meets its contract.
 use native.Mathlib.Omega.{arith}
 use borrow.Author.Needs.{needs}
 use Rattle.planner.proofs.Finishing.{bound-fits, figures-are}
 use Rattle.planner.proofs.finish.summary.Statement.{statement}
 use Rattle.planner.proofs.finish.summary.Tie as tie
-use Rattle.planner.proofs.finish.summary.Reads as reads
-use Rattle.planner.proofs.finish.summary.Lts as lts
-use Rattle.schedule.proofs.factors.Reads as factors-reads
-use Rattle.route.proofs.route_length.Reads as route-length-reads
 
 route-length-requires : tie.Need-route-length-requires
 route-length-requires c κs = search needs

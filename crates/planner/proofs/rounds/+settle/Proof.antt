@@ -1,4 +1,4 @@
--- `settle` meets its contract, by the rounds left, which fall with each call. Assumes nothing.
+-- `settle` meets its contract, by the rounds left, which fall with each call.
 use native.Mathlib.Omega.{arith}
 use mathlib.Core.Path.{sym, _∙_}
 use borrow.Author.Needs.{needs}

@@ -1,16 +1,10 @@
--- `end_round` meets its contract: the kept route, the next round's beginning, and the record. Assumes nothing.
-use native.Mathlib.Omega.{arith}
+-- `end_round` meets its contract: the kept route, the next round's beginning, and the record.
 use Rattle.workspace.proofs.Holding.{holds-ready}
 use Rattle.planner.proofs.Asked.{goal-in, route-long}
 use Rattle.planner.proofs.Ending.{carries-end, few-rounds}
 use borrow.Author.Needs.{needs}
 use Rattle.planner.proofs.rounds.end_round.Statement.{statement}
 use Rattle.planner.proofs.rounds.end_round.Tie as tie
-use Rattle.planner.proofs.rounds.end_round.Reads as reads
-use Rattle.planner.proofs.rounds.end_round.Lts as lts
-use Rattle.route.proofs.keep.Reads as keep-reads
-use Rattle.planner.proofs.rounds.reopen_next.Reads as reopen-next-reads
-use Rattle.progress.proofs.after_round.Reads as after-round-reads
 
 keep-requires : tie.Need-keep-requires
 keep-requires c κs =

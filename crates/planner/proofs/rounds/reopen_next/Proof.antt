@@ -1,13 +1,9 @@
--- `reopen_next` meets its contract. Assumes nothing.
-use native.Mathlib.Omega.{arith}
+-- `reopen_next` meets its contract.
 use native.Mathlib.Numerals.{add-one}
 use borrow.Author.Tests.{lt-ltb, le-ltb}
 use borrow.Author.Needs.{needs}
 use Rattle.planner.proofs.rounds.reopen_next.Statement.{statement}
 use Rattle.planner.proofs.rounds.reopen_next.Tie as tie
-use Rattle.planner.proofs.rounds.reopen_next.Reads as reads
-use Rattle.planner.proofs.rounds.reopen_next.Lts as lts
-use Rattle.workspace.proofs.round_start.reopen.Reads as reopen-reads
 
 add-if1 : tie.Need-add-if1
 add-if1 c = search needs

@@ -1,17 +1,10 @@
--- `advance` meets its contract: a turn where one is due, and step 1 after it. Assumes nothing.
-use native.Mathlib.Omega.{arith}
+-- `advance` meets its contract: a turn where one is due, and step 1 after it.
 use mathlib.Core.Path.{sym, _∙_}
 use Rattle.search.proofs.Runs.{stuck≢due, finished≢due}
 use Rattle.planner.proofs.Turning.{round-in, turn-asks, left-enough, settling-next, advances-over, advances-due}
 use borrow.Author.Needs.{needs}
 use Rattle.planner.proofs.running.advance.Statement.{statement}
 use Rattle.planner.proofs.running.advance.Tie as tie
-use Rattle.planner.proofs.running.advance.Reads as reads
-use Rattle.planner.proofs.running.advance.Lts as lts
-use Rattle.schedule.proofs.factors.Reads as factors-reads
-use Rattle.turn.proofs.turn.Reads as turn-reads
-use Rattle.planner.proofs.rounds.settle.Reads as settle-reads
-use Rattle.progress.proofs.after_turn.Reads as after-turn-reads
 
 enum-told : tie.Need-enum-told
 enum-told c = search needs

@@ -1,14 +1,12 @@
--- `goes_on` meets its contract. Assumes nothing.
+-- `goes_on` meets its contract.
 use mathlib.Core.Path.{sym, ap}
-use mathlib.Core.Bool.{Bool, _&&_}
+use mathlib.Core.Bool.{_&&_}
 use lib.Dec.{ltb}
 use Rattle.search.specs.declared.Step.{Step}
 use Rattle.planner.specs.Going.{isDue}
 use borrow.Author.Needs.{needs}
 use Rattle.planner.proofs.running.goes_on.Statement.{statement}
 use Rattle.planner.proofs.running.goes_on.Tie as tie
-use Rattle.planner.proofs.running.goes_on.Reads as reads
-use Rattle.planner.proofs.running.goes_on.Lts as lts
 
 enum-told : tie.Need-enum-told
 enum-told c = search needs

@@ -1,16 +1,11 @@
--- `run` meets its contract: it stands where so many turns lead. Assumes nothing.
-use Prim.Native.Nat.{_≤_}
+-- `run` meets its contract: it stands where so many turns lead.
 use native.Mathlib.Omega.{arith}
-use mathlib.Core.Path.{_≡_, refl, _∙_}
+use mathlib.Core.Path.{_≡_, refl}
 use lib.ListN.{length}
 use borrow.Author.Needs.{needs}
 use Rattle.planner.proofs.Rerun.{Ran, ran-none, ran-going, ran-stopped, left-some, advancing, ran-more, ran-all}
 use Rattle.planner.proofs.running.run.Statement.{statement}
 use Rattle.planner.proofs.running.run.Tie as tie
-use Rattle.planner.proofs.running.run.Reads as reads
-use Rattle.planner.proofs.running.run.Lts as lts
-use Rattle.planner.proofs.running.advance.Reads as advance-reads
-use Rattle.planner.proofs.running.goes_on.Reads as goes-on-reads
 
 abbrev Inv-loop : tie.InvT-loop
 Inv-loop work₀ route₀ log₀ anchor guides schedule z q budget stand₀ left₀ going₀ work route log stand left going =

@@ -1,4 +1,4 @@
--- `put_number` meets its contract, by its value, which falls with each call. Assumes nothing.
+-- `put_number` meets its contract, by its value, which falls with each call.
 use Prim.Native.Nat.{ℕ, _<_}
 use native.Mathlib.Omega.{arith}
 use borrow.Author.Needs.{needs}

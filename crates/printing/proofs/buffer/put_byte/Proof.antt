@@ -1,4 +1,4 @@
--- `put_byte` meets its contract: a store past the end is no store. Assumes nothing.
+-- `put_byte` meets its contract: a store past the end is no store.
 use mathlib.Core.Path.{_≡_, sym, ap, _∙_}
 use mathlib.Core.Logic.{⊎-elim}
 use lib.ListN.{length, set, length-set}

@@ -1,4 +1,4 @@
--- `put_field` meets its contract: the word, and after it the number. Assumes nothing.
+-- `put_field` meets its contract: the word, and after it the number.
 use native.Mathlib.Omega.{arith}
 use lib.ListN.{length-append}
 use Rattle.text.specs.Text.{field}

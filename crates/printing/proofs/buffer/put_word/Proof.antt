@@ -1,4 +1,4 @@
--- `put_word` meets its contract. The loop's invariant: the word's first i bytes were put. Assumes nothing.
+-- `put_word` meets its contract. The loop's invariant: the word's first i bytes were put.
 use Prim.Native.Nat.{_≤_, _-_}
 use native.Mathlib.Omega.{arith}
 use lib.ListN.{length, take}

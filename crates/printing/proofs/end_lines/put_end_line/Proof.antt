@@ -1,4 +1,4 @@
--- `put_end_line` meets its contract: the four figures, each after its word. Assumes nothing.
+-- `put_end_line` meets its contract: the four figures, each after its word.
 use native.Mathlib.Omega.{arith}
 use lib.ListN.{length-append}
 use borrow.Author.Needs.{needs}

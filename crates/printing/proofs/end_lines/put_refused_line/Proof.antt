@@ -1,4 +1,4 @@
--- `put_refused_line` meets its contract: the refusal's number and position, each after its word. Assumes nothing.
+-- `put_refused_line` meets its contract: the refusal's number and position, each after its word.
 use native.Mathlib.Omega.{arith}
 use lib.ListN.{length-append}
 use borrow.Author.Needs.{needs}

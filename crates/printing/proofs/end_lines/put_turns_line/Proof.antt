@@ -1,7 +1,6 @@
--- `put_turns_line` meets its contract: the words, and after them the turns. Assumes nothing.
+-- `put_turns_line` meets its contract: the words, and after them the turns.
 use native.Mathlib.Omega.{arith}
 use lib.ListN.{length-append}
-use borrow.Author.Needs.{needs}
 use Rattle.text.proofs.Laid.{put-length, then-put}
 use Rattle.printing.proofs.end_lines.put_turns_line.Statement.{statement}
 use Rattle.printing.proofs.end_lines.put_turns_line.Tie as tie

@@ -1,4 +1,4 @@
--- `put_logged_line` meets its contract: the log word's heuristic and vertex. Assumes nothing.
+-- `put_logged_line` meets its contract: the log word's heuristic and vertex.
 use borrow.Author.Needs.{needs}
 use Rattle.text.specs.Text.{loggedLine}
 use Rattle.printing.proofs.lines.put_logged_line.Statement.{statement}

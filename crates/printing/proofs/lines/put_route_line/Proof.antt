@@ -1,4 +1,4 @@
--- `put_route_line` meets its contract: the word, the vertices and a newline. Assumes nothing.
+-- `put_route_line` meets its contract: the word, the vertices and a newline.
 use native.Mathlib.Omega.{arith}
 use lib.ListN.{length-append}
 use borrow.Author.Needs.{needs}

@@ -1,4 +1,4 @@
--- `put_turn_line` meets its contract: the turn's number, its heuristic and its vertex, each after its word. Assumes nothing.
+-- `put_turn_line` meets its contract: the turn's number, its heuristic and its vertex, each after its word.
 use native.Mathlib.Omega.{arith}
 use lib.ListN.{length-append}
 use borrow.Author.Needs.{needs}

@@ -1,4 +1,4 @@
--- `put_turn_lines` meets its contract. The loop's invariant: the lines of the first i log words were put. Assumes nothing.
+-- `put_turn_lines` meets its contract. The loop's invariant: the lines of the first i log words were put.
 use Prim.Native.Nat.{_≤_, _-_}
 use native.Mathlib.Omega.{arith}
 use lib.ListN.{take}

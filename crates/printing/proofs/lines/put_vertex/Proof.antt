@@ -1,4 +1,4 @@
--- `put_vertex` meets its contract: a space, and after it the vertex. Assumes nothing.
+-- `put_vertex` meets its contract: a space, and after it the vertex.
 use borrow.Author.Needs.{needs}
 use Rattle.text.specs.Text.{ascii}
 use Rattle.printing.proofs.lines.put_vertex.Statement.{statement}

@@ -1,4 +1,4 @@
--- `put_vertices` meets its contract. The loop's invariant: the first i vertices were put. Assumes nothing.
+-- `put_vertices` meets its contract. The loop's invariant: the first i vertices were put.
 use Prim.Native.Nat.{_≤_, _-_}
 use native.Mathlib.Omega.{arith}
 use lib.ListN.{take}

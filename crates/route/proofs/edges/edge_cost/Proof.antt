@@ -1,4 +1,4 @@
--- `edge_cost` meets its contract. Assumes nothing.
+-- `edge_cost` meets its contract.
 use Prim.Native.Nat.{_-_}
 use mathlib.Core.Path.{sym, ap}
 use native.Mathlib.Numerals.{add-one}
@@ -9,10 +9,6 @@ use Rattle.route.specs.Costs.{maxWord, AtMost}
 use Rattle.route.proofs.Found.{Looking, looking-none, looking-more, looking-all, cost-outside, none-most}
 use Rattle.route.proofs.edges.edge_cost.Statement.{statement}
 use Rattle.route.proofs.edges.edge_cost.Tie as tie
-use Rattle.route.proofs.edges.edge_cost.Reads as reads
-use Rattle.route.proofs.edges.edge_cost.Lts as lts
-use Rattle.route.proofs.edges.look.Reads as look-reads
-use Rattle.workspace.proofs.edge_words.first_edge.Reads as first-edge-reads
 
 abbrev Inv-loop : tie.InvT-loop
 Inv-loop work z a b vertices found₀ j₀ end found j = Looking z work a b end j found × AtMost maxWord found

@@ -1,4 +1,4 @@
--- `look` meets its contract. Assumes nothing.
+-- `look` meets its contract.
 use mathlib.Core.Path.{refl, sym, ap, _∙_}
 use native.Mathlib.Omega.{arith}
 use Rattle.graph.specs.declared.Edge.{Edge}
@@ -9,9 +9,6 @@ use Rattle.route.proofs.Found.{alone-yes, alone-no, none-most, cost-mos
 use borrow.Author.Needs.{needs}
 use Rattle.route.proofs.edges.look.Statement.{statement}
 use Rattle.route.proofs.edges.look.Tie as tie
-use Rattle.route.proofs.edges.look.Reads as reads
-use Rattle.route.proofs.edges.look.Lts as lts
-use Rattle.workspace.proofs.edge_words.edge.Reads as edge-reads
 
 enum-told : tie.Need-enum-told
 enum-told c = search needs

@@ -1,4 +1,4 @@
--- `fill` meets its contract. Assumes nothing.
+-- `fill` meets its contract.
 use Prim.Native.Nat.{_-_}
 use mathlib.Core.Path.{_≡_, refl, sym, _∙_}
 use lib.ListN.{length, length-set, replicate}
@@ -8,8 +8,6 @@ use Rattle.search.specs.Job.{routeEnd}
 use Rattle.route.proofs.Laid.{fill-more, fill-done}
 use Rattle.route.proofs.laying.fill.Statement.{statement}
 use Rattle.route.proofs.laying.fill.Tie as tie
-use Rattle.route.proofs.laying.fill.Reads as reads
-use Rattle.route.proofs.laying.fill.Lts as lts
 
 abbrev Inv-loop : tie.InvT-loop
 Inv-loop route₀ n v i₀ route i = (length route ≡ length route₀) × (sets route i (replicate (v - i) routeEnd) ≡ sets route₀ n (replicate (v - n) routeEnd))

@@ -1,13 +1,9 @@
--- `lay` meets its contract. Assumes nothing.
+-- `lay` meets its contract.
 use native.Mathlib.Omega.{arith}
 use Rattle.route.proofs.Laid.{tracedIn-most, laid-whole}
 use borrow.Author.Needs.{needs}
 use Rattle.route.proofs.laying.lay.Statement.{statement}
 use Rattle.route.proofs.laying.lay.Tie as tie
-use Rattle.route.proofs.laying.lay.Reads as reads
-use Rattle.route.proofs.laying.lay.Lts as lts
-use Rattle.route.proofs.laying.fill.Reads as fill-reads
-use Rattle.route.proofs.laying.put_all.Reads as put-all-reads
 
 put-all-requires : tie.Need-put-all-requires
 put-all-requires c κs =

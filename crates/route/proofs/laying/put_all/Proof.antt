@@ -1,13 +1,10 @@
--- `put_all` meets its contract. Assumes nothing.
+-- `put_all` meets its contract.
 use native.Mathlib.Omega.{arith}
 use borrow.Author.Needs.{needs}
 use Rattle.workspace.specs.Layout.{verticesOf}
 use Rattle.route.proofs.Laid.{Laying, laying-none, laying-more, laying-all}
 use Rattle.route.proofs.laying.put_all.Statement.{statement}
 use Rattle.route.proofs.laying.put_all.Tie as tie
-use Rattle.route.proofs.laying.put_all.Reads as reads
-use Rattle.route.proofs.laying.put_all.Lts as lts
-use Rattle.route.proofs.laying.put.Reads as put-reads
 
 abbrev Inv-loop : tie.InvT-loop
 Inv-loop work route₀ z goal n i₀ x₀ route i x = Laying (verticesOf z work) n goal route₀ route i x

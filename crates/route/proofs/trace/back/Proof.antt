@@ -1,15 +1,10 @@
--- `back` meets its contract. Assumes nothing.
+-- `back` meets its contract.
 use native.Mathlib.Omega.{arith}
 use Rattle.workspace.specs.Layout.{graphOf}
 use Rattle.route.proofs.Traces.{most-le, back-step}
 use borrow.Author.Needs.{needs}
 use Rattle.route.proofs.trace.back.Statement.{statement}
 use Rattle.route.proofs.trace.back.Tie as tie
-use Rattle.route.proofs.trace.back.Reads as reads
-use Rattle.route.proofs.trace.back.Lts as lts
-use Rattle.route.proofs.edges.edge_cost.Reads as edge-cost-reads
-use Rattle.route.proofs.trace.plus.Reads as plus-reads
-use Rattle.route.proofs.trace.pred_of.Reads as pred-of-reads
 
 pred-of-requires : tie.Need-pred-of-requires
 pred-of-requires c κs = search needs

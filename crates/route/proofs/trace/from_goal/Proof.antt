@@ -1,13 +1,10 @@
--- `from_goal` meets its contract. Assumes nothing.
+-- `from_goal` meets its contract.
 use Prim.Native.Nat.{_-_}
 use native.Mathlib.Omega.{arith}
 use borrow.Author.Tests.{eqb-true, eqb-false, not-true, not-false}
 use Rattle.route.proofs.Traces.{Tracing, tracing-none, tracing-more, tracing-start, tracing-full, back-length}
 use Rattle.route.proofs.trace.from_goal.Statement.{statement}
 use Rattle.route.proofs.trace.from_goal.Tie as tie
-use Rattle.route.proofs.trace.from_goal.Reads as reads
-use Rattle.route.proofs.trace.from_goal.Lts as lts
-use Rattle.route.proofs.trace.back.Reads as back-reads
 
 abbrev Inv-loop : tie.InvT-loop
 Inv-loop work z start goal vertices t₀ t = Tracing z work start goal t

@@ -1,11 +1,9 @@
--- `plus` meets its contract. Assumes nothing.
+-- `plus` meets its contract.
 use native.Mathlib.Omega.{arith}
 use Rattle.route.specs.Costs.{plus}
 use borrow.Author.Needs.{needs}
 use Rattle.route.proofs.trace.plus.Statement.{statement}
 use Rattle.route.proofs.trace.plus.Tie as tie
-use Rattle.route.proofs.trace.plus.Reads as reads
-use Rattle.route.proofs.trace.plus.Lts as lts
 
 enum-known-edge : tie.Need-enum-known-edge
 enum-known-edge c = search needs

@@ -1,4 +1,4 @@
--- `pred_of` meets its contract. Assumes nothing.
+-- `pred_of` meets its contract.
 use mathlib.Core.Path.{sym, ap}
 use native.Mathlib.Omega.{arith}
 use Rattle.search.specs.declared.Vertex.{Vertex}
@@ -9,9 +9,6 @@ use Rattle.route.proofs.Traces.{pred-past}
 use borrow.Author.Needs.{needs}
 use Rattle.route.proofs.trace.pred_of.Statement.{statement}
 use Rattle.route.proofs.trace.pred_of.Tie as tie
-use Rattle.route.proofs.trace.pred_of.Reads as reads
-use Rattle.route.proofs.trace.pred_of.Lts as lts
-use Rattle.workspace.proofs.vertex_words.load.Reads as load-reads
 
 load-requires : tie.Need-load-requires
 load-requires c κs = search needs

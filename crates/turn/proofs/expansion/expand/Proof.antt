@@ -1,14 +1,8 @@
--- `expand` meets its contract. Assumes nothing.
+-- `expand` meets its contract.
 use Rattle.turn.proofs.Expanding.{fits-marked, marked-ready, expanded}
 use borrow.Author.Needs.{needs}
 use Rattle.turn.proofs.expansion.expand.Statement.{statement}
 use Rattle.turn.proofs.expansion.expand.Tie as tie
-use Rattle.turn.proofs.expansion.expand.Reads as reads
-use Rattle.turn.proofs.expansion.expand.Lts as lts
-use Rattle.turn.proofs.expansion.relax_all.Reads as relax-all-reads
-use Rattle.turn.proofs.vertices.marked.Reads as marked-reads
-use Rattle.workspace.proofs.vertex_words.load.Reads as load-reads
-use Rattle.workspace.proofs.vertex_words.store.Reads as store-reads
 
 load-requires : tie.Need-load-requires
 load-requires c κs = search needs

@@ -1,15 +1,10 @@
--- `relax` meets its contract. Assumes nothing.
+-- `relax` meets its contract.
 use mathlib.Core.Path.{sym, ap, _∙_}
 use Rattle.workspace.specs.Layout.{verticesOf, written}
 use Rattle.turn.proofs.Expanding.{fits-lowered, relax-taken, relax-left}
 use borrow.Author.Needs.{needs}
 use Rattle.turn.proofs.expansion.relax.Statement.{statement}
 use Rattle.turn.proofs.expansion.relax.Tie as tie
-use Rattle.turn.proofs.expansion.relax.Reads as reads
-use Rattle.turn.proofs.expansion.relax.Lts as lts
-use Rattle.turn.proofs.vertices.lowered.Reads as lowered-reads
-use Rattle.workspace.proofs.vertex_words.load.Reads as load-reads
-use Rattle.workspace.proofs.vertex_words.store.Reads as store-reads
 
 load-requires : tie.Need-load-requires
 load-requires c κs = search needs

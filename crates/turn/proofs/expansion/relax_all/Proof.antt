@@ -1,4 +1,4 @@
--- `relax_all` meets its contract: the edges of s before edge j, and all of them. Assumes nothing.
+-- `relax_all` meets its contract: the edges of s before edge j, and all of them.
 use Prim.Native.Nat.{_-_, _<_}
 use native.Mathlib.Omega.{arith}
 use native.Mathlib.Numerals.{add-one}
@@ -6,11 +6,6 @@ use Rattle.turn.proofs.Expanding.{Tried, tried-none, tried-ready, tried
 use borrow.Author.Needs.{needs}
 use Rattle.turn.proofs.expansion.relax_all.Statement.{statement}
 use Rattle.turn.proofs.expansion.relax_all.Tie as tie
-use Rattle.turn.proofs.expansion.relax_all.Reads as reads
-use Rattle.turn.proofs.expansion.relax_all.Lts as lts
-use Rattle.turn.proofs.expansion.relax.Reads as relax-reads
-use Rattle.workspace.proofs.edge_words.edge.Reads as edge-reads
-use Rattle.workspace.proofs.edge_words.first_edge.Reads as first-edge-reads
 
 abbrev Inv-loop : tie.InvT-loop
 Inv-loop work₀ z s g j₀ end work j = Tried z s g j₀ end work₀ work j

@@ -1,4 +1,4 @@
--- `choose` meets its contract. Assumes nothing.
+-- `choose` meets its contract.
 use native.Mathlib.Nat.{mul-le-mul-right}
 use native.Mathlib.Omega.{arith}
 use borrow.Author.Tests.{le-leb, lt-leb}
@@ -6,8 +6,6 @@ use Rattle.search.specs.Turn.{choose}
 use borrow.Author.Needs.{needs}
 use Rattle.turn.proofs.rules.choose.Statement.{statement}
 use Rattle.turn.proofs.rules.choose.Tie as tie
-use Rattle.turn.proofs.rules.choose.Reads as reads
-use Rattle.turn.proofs.rules.choose.Lts as lts
 
 enum-told : tie.Need-enum-told
 enum-told c = search needs

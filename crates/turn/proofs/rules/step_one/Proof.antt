@@ -1,4 +1,4 @@
--- `step_one` meets its contract. Assumes nothing.
+-- `step_one` meets its contract.
 use native.Mathlib.Nat.{mul-le-mul-right}
 use native.Mathlib.Omega.{arith}
 use borrow.Author.Tests.{lt-ltb, le-ltb, le-leb, lt-leb}
@@ -7,8 +7,6 @@ use Rattle.search.specs.Turn.{stepOne}
 use borrow.Author.Needs.{needs}
 use Rattle.turn.proofs.rules.step_one.Statement.{statement}
 use Rattle.turn.proofs.rules.step_one.Tie as tie
-use Rattle.turn.proofs.rules.step_one.Reads as reads
-use Rattle.turn.proofs.rules.step_one.Lts as lts
 
 enum-told : tie.Need-enum-told
 enum-told c = search needs

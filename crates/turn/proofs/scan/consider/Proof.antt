@@ -1,15 +1,9 @@
--- `consider` meets its contract. Assumes nothing.
+-- `consider` meets its contract.
 use mathlib.Core.Path.{sym, _∙_}
 use Rattle.turn.proofs.Scanning.{offered-taken, offered-left}
 use borrow.Author.Needs.{needs}
 use Rattle.turn.proofs.scan.consider.Statement.{statement}
 use Rattle.turn.proofs.scan.consider.Tie as tie
-use Rattle.turn.proofs.scan.consider.Reads as reads
-use Rattle.turn.proofs.scan.consider.Lts as lts
-use Rattle.turn.proofs.vertices.key.Reads as key-reads
-use Rattle.turn.proofs.vertices.offered.Reads as offered-reads
-use Rattle.turn.proofs.scan.Lead.better.Reads as better-reads
-use Rattle.workspace.proofs.vertex_words.load.Reads as load-reads
 
 mul-h : tie.Need-mul-h
 mul-h c = search needs

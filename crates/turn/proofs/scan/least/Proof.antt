@@ -1,15 +1,10 @@
--- `least` meets its contract: the best of the first s vertices, and of all. Assumes nothing.
+-- `least` meets its contract: the best of the first s vertices, and of all.
 use Prim.Native.Nat.{_-_}
 use Rattle.turn.specs.Lead.{bestOf}
 use Rattle.turn.proofs.Scanning.{Scanned, scanned-none, scanned-next, scanned-all}
 use borrow.Author.Needs.{needs}
 use Rattle.turn.proofs.scan.least.Statement.{statement}
 use Rattle.turn.proofs.scan.least.Tie as tie
-use Rattle.turn.proofs.scan.least.Reads as reads
-use Rattle.turn.proofs.scan.least.Lts as lts
-use Rattle.turn.proofs.scan.consider.Reads as consider-reads
-use Rattle.turn.proofs.scan.Lead.best.Reads as best-reads
-use Rattle.turn.proofs.scan.Lead.none.Reads as none-reads
 
 abbrev Inv-loop : tie.InvT-loop
 Inv-loop work numbers z i w1 vertices lead₀ s₀ lead s = Scanned z work numbers i w1 s (bestOf lead)

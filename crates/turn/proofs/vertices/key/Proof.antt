@@ -1,12 +1,10 @@
--- `key` meets its contract. Assumes nothing.
+-- `key` meets its contract.
 use native.Mathlib.Nat.{mul-le-mul-right}
 use native.Mathlib.Omega.{arith}
 use Rattle.search.specs.Turn.{key}
 use borrow.Author.Needs.{needs}
 use Rattle.turn.proofs.vertices.key.Statement.{statement}
 use Rattle.turn.proofs.vertices.key.Tie as tie
-use Rattle.turn.proofs.vertices.key.Reads as reads
-use Rattle.turn.proofs.vertices.key.Lts as lts
 
 mul-result : tie.Need-mul-result
 mul-result c = search needs

@@ -1,10 +1,8 @@
--- `lowered` meets its contract. Assumes nothing.
+-- `lowered` meets its contract.
 use Rattle.search.specs.Turn.{lowered}
 use borrow.Author.Needs.{needs}
 use Rattle.turn.proofs.vertices.lowered.Statement.{statement}
 use Rattle.turn.proofs.vertices.lowered.Tie as tie
-use Rattle.turn.proofs.vertices.lowered.Reads as reads
-use Rattle.turn.proofs.vertices.lowered.Lts as lts
 
 returns : tie.Need-returns
 unfolding lowered

@@ -1,10 +1,8 @@
--- `marked` meets its contract. Assumes nothing.
+-- `marked` meets its contract.
 use borrow.Author.Tests.{eq-eqb, ne-eqb}
 use Rattle.search.specs.Turn.{marked}
 use Rattle.turn.proofs.vertices.marked.Statement.{statement}
 use Rattle.turn.proofs.vertices.marked.Tie as tie
-use Rattle.turn.proofs.vertices.marked.Reads as reads
-use Rattle.turn.proofs.vertices.marked.Lts as lts
 
 returns : tie.Need-returns
 unfolding marked

@@ -1,10 +1,8 @@
--- `offered` meets its contract. Assumes nothing.
+-- `offered` meets its contract.
 use borrow.Author.Tests.{eq-eqb, ne-eqb}
 use Rattle.search.specs.Turn.{offered}
 use Rattle.turn.proofs.vertices.offered.Statement.{statement}
 use Rattle.turn.proofs.vertices.offered.Tie as tie
-use Rattle.turn.proofs.vertices.offered.Reads as reads
-use Rattle.turn.proofs.vertices.offered.Lts as lts
 
 returns : tie.Need-returns
 unfolding offered

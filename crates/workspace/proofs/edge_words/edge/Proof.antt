@@ -1,11 +1,9 @@
--- `edge` meets its contract. Assumes nothing.
+-- `edge` meets its contract.
 use native.Mathlib.Omega.{arith}
 use Rattle.workspace.specs.Layout.{base, edgeAt}
 use borrow.Author.Needs.{needs}
 use Rattle.workspace.proofs.edge_words.edge.Statement.{statement}
 use Rattle.workspace.proofs.edge_words.edge.Tie as tie
-use Rattle.workspace.proofs.edge_words.edge.Reads as reads
-use Rattle.workspace.proofs.edge_words.edge.Lts as lts
 
 cast-h : tie.Need-cast-h
 cast-h c = search needs

@@ -1,11 +1,9 @@
--- `first_edge` meets its contract. Assumes nothing.
+-- `first_edge` meets its contract.
 use native.Mathlib.Omega.{arith}
 use Rattle.workspace.specs.Layout.{base, firstOf}
 use borrow.Author.Needs.{needs}
 use Rattle.workspace.proofs.edge_words.first_edge.Statement.{statement}
 use Rattle.workspace.proofs.edge_words.first_edge.Tie as tie
-use Rattle.workspace.proofs.edge_words.first_edge.Reads as reads
-use Rattle.workspace.proofs.edge_words.first_edge.Lts as lts
 
 mul-result : tie.Need-mul-result
 mul-result c = search needs

@@ -1,4 +1,4 @@
--- `at_first` meets its contract. Assumes nothing.
+-- `at_first` meets its contract.
 use Prim.Native.Nat.{_-_, _≤_}
 use mathlib.Core.Path.{_≡_, refl, _∙_}
 use native.Mathlib.Omega.{arith}
@@ -10,11 +10,6 @@ use Rattle.workspace.proofs.RoundStart.{fits-fresh, fits-origin, fresh-
 use borrow.Author.Needs.{needs}
 use Rattle.workspace.proofs.round_start.at_first.Statement.{statement}
 use Rattle.workspace.proofs.round_start.at_first.Tie as tie
-use Rattle.workspace.proofs.round_start.at_first.Reads as reads
-use Rattle.workspace.proofs.round_start.at_first.Lts as lts
-use Rattle.search.proofs.Vertex.fresh.Reads as fresh-reads
-use Rattle.workspace.proofs.round_start.origin.Reads as origin-reads
-use Rattle.workspace.proofs.words.put.Reads as put-reads
 
 abbrev Inv-loop : tie.InvT-loop
 Inv-loop work₀ z start vertices p₀ work p = (p ≤ vertices) × (length work ≡ length work₀) × (work ≡ written z (replicate p fresh) work₀)

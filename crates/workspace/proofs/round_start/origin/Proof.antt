@@ -1,10 +1,8 @@
--- `origin` meets its contract. Assumes nothing.
+-- `origin` meets its contract.
 use Rattle.search.specs.Job.{origin, unreached, noPred}
 use borrow.Author.Needs.{needs}
 use Rattle.workspace.proofs.round_start.origin.Statement.{statement}
 use Rattle.workspace.proofs.round_start.origin.Tie as tie
-use Rattle.workspace.proofs.round_start.origin.Reads as reads
-use Rattle.workspace.proofs.round_start.origin.Lts as lts
 
 returns : tie.Need-returns
 unfolding origin unreached noPred

@@ -1,13 +1,10 @@
--- `reopen` meets its contract. Assumes nothing.
+-- `reopen` meets its contract.
 use Prim.Native.Nat.{_-_}
 use Rattle.workspace.proofs.Written.{ready-kept, length-kept}
 use Rattle.workspace.proofs.RoundStart.{Reopening, reopening-none, reopening-more, reopening-all}
 use borrow.Author.Needs.{needs}
 use Rattle.workspace.proofs.round_start.reopen.Statement.{statement}
 use Rattle.workspace.proofs.round_start.reopen.Tie as tie
-use Rattle.workspace.proofs.round_start.reopen.Reads as reads
-use Rattle.workspace.proofs.round_start.reopen.Lts as lts
-use Rattle.workspace.proofs.round_start.reopen_one.Reads as reopen-one-reads
 
 abbrev Inv-loop : tie.InvT-loop
 Inv-loop work₀ z vertices s₀ work s = Reopening z work₀ work s

@@ -1,13 +1,8 @@
--- `reopen_one` meets its contract. Assumes nothing.
+-- `reopen_one` meets its contract.
 use Rattle.workspace.proofs.RoundStart.{fits-reopened}
 use borrow.Author.Needs.{needs}
 use Rattle.workspace.proofs.round_start.reopen_one.Statement.{statement}
 use Rattle.workspace.proofs.round_start.reopen_one.Tie as tie
-use Rattle.workspace.proofs.round_start.reopen_one.Reads as reads
-use Rattle.workspace.proofs.round_start.reopen_one.Lts as lts
-use Rattle.workspace.proofs.round_start.reopened.Reads as reopened-reads
-use Rattle.workspace.proofs.vertex_words.load.Reads as load-reads
-use Rattle.workspace.proofs.vertex_words.store.Reads as store-reads
 
 load-requires : tie.Need-load-requires
 load-requires c κs = search needs

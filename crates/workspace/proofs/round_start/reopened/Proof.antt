@@ -1,10 +1,8 @@
--- `reopened` meets its contract. Assumes nothing.
+-- `reopened` meets its contract.
 use Rattle.search.specs.Rounds.{reopened}
 use borrow.Author.Needs.{needs}
 use Rattle.workspace.proofs.round_start.reopened.Statement.{statement}
 use Rattle.workspace.proofs.round_start.reopened.Tie as tie
-use Rattle.workspace.proofs.round_start.reopened.Reads as reads
-use Rattle.workspace.proofs.round_start.reopened.Lts as lts
 
 returns : tie.Need-returns
 unfolding reopened

@@ -1,4 +1,4 @@
--- `load` meets its contract. Assumes nothing.
+-- `load` meets its contract.
 use Prim.Native.Nat.{_+_, _*_}
 use mathlib.Core.Path.{sym}
 use native.Mathlib.Omega.{arith}
@@ -7,10 +7,6 @@ use Rattle.workspace.proofs.Written.{at-verticesOf}
 use borrow.Author.Needs.{needs}
 use Rattle.workspace.proofs.vertex_words.load.Statement.{statement}
 use Rattle.workspace.proofs.vertex_words.load.Tie as tie
-use Rattle.workspace.proofs.vertex_words.load.Reads as reads
-use Rattle.workspace.proofs.vertex_words.load.Lts as lts
-use Rattle.workspace.proofs.words.base.Reads as base-reads
-use Rattle.workspace.proofs.words.has_mark.Reads as has-mark-reads
 
 base-requires : tie.Need-base-requires
 base-requires c κs = search needs

@@ -1,12 +1,9 @@
--- `store` meets its contract. Assumes nothing.
+-- `store` meets its contract.
 use mathlib.Core.Path.{_∙_}
 use Rattle.workspace.proofs.Written.{stored}
 use borrow.Author.Needs.{needs}
 use Rattle.workspace.proofs.vertex_words.store.Statement.{statement}
 use Rattle.workspace.proofs.vertex_words.store.Tie as tie
-use Rattle.workspace.proofs.vertex_words.store.Reads as reads
-use Rattle.workspace.proofs.vertex_words.store.Lts as lts
-use Rattle.workspace.proofs.words.put.Reads as put-reads
 
 put-requires : tie.Need-put-requires
 put-requires c κs = search needs

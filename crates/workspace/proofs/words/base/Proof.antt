@@ -1,10 +1,8 @@
--- `base` meets its contract. Assumes nothing.
+-- `base` meets its contract.
 use Rattle.workspace.specs.Layout.{base}
 use borrow.Author.Needs.{needs}
 use Rattle.workspace.proofs.words.base.Statement.{statement}
 use Rattle.workspace.proofs.words.base.Tie as tie
-use Rattle.workspace.proofs.words.base.Reads as reads
-use Rattle.workspace.proofs.words.base.Lts as lts
 
 cast-result : tie.Need-cast-result
 cast-result c = search needs

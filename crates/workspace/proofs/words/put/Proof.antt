@@ -1,4 +1,4 @@
--- `put` meets its contract. Assumes nothing.
+-- `put` meets its contract.
 use lib.ListN.{length-set}
 use native.Mathlib.Omega.{arith}
 use Rattle.search.specs.Outcome.{markWord}
@@ -6,10 +6,6 @@ use Rattle.workspace.specs.Layout.{withVertex}
 use borrow.Author.Needs.{needs}
 use Rattle.workspace.proofs.words.put.Statement.{statement}
 use Rattle.workspace.proofs.words.put.Tie as tie
-use Rattle.workspace.proofs.words.put.Reads as reads
-use Rattle.workspace.proofs.words.put.Lts as lts
-use Rattle.workspace.proofs.words.base.Reads as base-reads
-use Rattle.workspace.proofs.words.mark.Reads as mark-reads
 
 base-requires : tie.Need-base-requires
 base-requires c κs = search needs

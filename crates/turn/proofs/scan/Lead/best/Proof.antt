@@ -1,10 +1,8 @@
--- `Lead::best` meets its contract. Assumes nothing.
+-- `Lead::best` meets its contract.
 use borrow.Author.Tests.{eq-eqb, ne-eqb}
 use Rattle.turn.specs.Lead.{bestOf}
 use Rattle.turn.proofs.scan.Lead.best.Statement.{statement}
 use Rattle.turn.proofs.scan.Lead.best.Tie as tie
-use Rattle.turn.proofs.scan.Lead.best.Reads as reads
-use Rattle.turn.proofs.scan.Lead.best.Lts as lts
 
 returns : tie.Need-returns
 unfolding bestOf

@@ -1,4 +1,4 @@
--- `Lead::better` meets its contract. Assumes nothing.
+-- `Lead::better` meets its contract.
 use Prim.Native.Nat.{ℕ, _≤_, _<_}
 use mathlib.Core.Path.{_≡_, refl}
 use mathlib.Core.Bool.{Bool, true, false, cond}
@@ -12,8 +12,6 @@ use Rattle.search.specs.Bounds.{maxKey}
 use Rattle.turn.specs.Lead.{noKey, bestOf}
 use Rattle.turn.proofs.scan.Lead.better.Statement.{statement}
 use Rattle.turn.proofs.scan.Lead.better.Tie as tie
-use Rattle.turn.proofs.scan.Lead.better.Reads as reads
-use Rattle.turn.proofs.scan.Lead.better.Lts as lts
 
 module _ (k s : ℕ) (l : Lead) (small : k ≤ maxKey) where
   better-taken : k < l .key → bestOf (record { key = k; vertex = s }) ≡ better true k s (bestOf l)

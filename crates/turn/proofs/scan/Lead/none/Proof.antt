@@ -1,10 +1,8 @@
--- `Lead::none` meets its contract. Assumes nothing.
+-- `Lead::none` meets its contract.
 use Rattle.turn.specs.Lead.{bestOf}
 use borrow.Author.Needs.{needs}
 use Rattle.turn.proofs.scan.Lead.none.Statement.{statement}
 use Rattle.turn.proofs.scan.Lead.none.Tie as tie
-use Rattle.turn.proofs.scan.Lead.none.Reads as reads
-use Rattle.turn.proofs.scan.Lead.none.Lts as lts
 
 returns : tie.Need-returns
 unfolding bestOf
