@@ -5,7 +5,7 @@ ghost use Rattle.job.specs.Numbers.{endOf};
 use job::NumbersRead;
 use leb128::NumberRead;
 
-// The offset past so many numbers.
+// The offset past `count` numbers.
 pub fn past(job: &[u8], at: usize, count: usize) -> NumbersRead
     ensures { λ r. ⌜ r ≡ endOf count (now (job .entry)) at ⌝ }
 {

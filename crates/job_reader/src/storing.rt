@@ -21,7 +21,7 @@ fn store_one(job: &[u8], at: usize, into: &mut [u32], i: usize) -> usize
     next
 }
 
-// So many numbers stored from the front on, up to the first that is missing or of bad form.
+// `count` numbers stored from the front on, up to the first that is missing or of bad form.
 pub fn store(job: &[u8], at: usize, count: usize, into: &mut [u32])
     requires { ⌜ count ≤ length (now into) ⌝ }
     ensures { λ r. ⌜ now (into .exit) ≡ sets (now (into .entry)) 0 (values count (now (job .entry)) at) ⌝ }

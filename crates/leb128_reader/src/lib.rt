@@ -46,7 +46,7 @@ pub fn read_job_number(bytes: &[u8], at: usize) -> NumberRead
     read_groups(bytes, at, 5)
 }
 
-// The number of at most so many groups at an offset.
+// The number of at most `groups` groups at an offset.
 fn read_groups(bytes: &[u8], at: usize, groups: u32) -> NumberRead
     ensures { λ r. ⌜ r ≡ read groups (now (bytes .entry)) at ⌝ }
 {

@@ -15,7 +15,7 @@ use Rattle.plan_check.specs.Past.{cursorPast}
 sizes≢refused : {v m n p : ℕ} → Refused n p ≡ Sizes v m → ⊥
 sizes≢refused h = let z : _≡_ {A = ℕ} 0 1 = cc in omega arith
 
--- what has sizes was accepted, with so many edges
+-- what has sizes was accepted, with that count of edges
 pub sized-by : (d : Decoded) (v m : ℕ) → sizes d ≡ Sizes v m → (d ≡ accepted v (edgesIn d)) × (length (edgesIn d) ≡ m)
 unfolding sizes edgesIn
 sized-by (accepted w es) v m h =

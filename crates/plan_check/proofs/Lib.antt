@@ -1,3 +1,4 @@
+pub mod Ranges
 pub mod NextEdge
 pub mod Checked
 pub mod Counts

@@ -1,39 +1,42 @@
 // A plan number through all its rows: read, or refused with the offset of its first byte.
 ghost use mathlib.Core.Path.{_≡_};
 ghost use Rattle.graph.specs.Rows.{take, vertexCountRows, edgeCountRows, tailRows, headRows, costRows};
+ghost use Rattle.plan_check.specs.Range.{rangeRows};
 use graph::Taken;
 use leb128::NumberRead;
+
+// A number through the rows of a range: `above` where it is the limit or more, then `below` where it is
+// under the least.
+fn take_in(bytes: &[u8], at: usize, limit: u32, above: u32, least: u32, below: u32) -> Taken
+    ensures { λ r. ⌜ r ≡ take (now (bytes .entry)) at (rangeRows limit above least below) ⌝ }
+{
+    let NumberRead::Value(value, next) = leb128_reader::read_plan_number(bytes, at) else {
+        return Taken::Refused(1, at);
+    };
+    if limit <= value {
+        return Taken::Refused(above, at);
+    }
+    if value < least {
+        return Taken::Refused(below, at);
+    }
+    Taken::Number(value, next)
+}
 
 // V, at the front: refusals 1 and 2.
 pub fn take_vertex_count(bytes: &[u8]) -> Taken
     ensures { λ r. ⌜ r ≡ take (now (bytes .entry)) 0 vertexCountRows ⌝ }
 {
-    let NumberRead::Value(count, next) = leb128_reader::read_plan_number(bytes, 0) else {
-        return Taken::Refused(1, 0);
-    };
-    if count == 0 {
-        return Taken::Refused(2, 0);
-    }
-    if graph::MAX_VERTICES < count {
-        return Taken::Refused(2, 0);
-    }
-    Taken::Number(count, next)
+    take_in(bytes, 0, graph::MAX_VERTICES + 1, 2, 1, 2)
 }
 
 // M: refusals 1 and 3.
 pub fn take_edge_count(bytes: &[u8], at: usize) -> Taken
     ensures { λ r. ⌜ r ≡ take (now (bytes .entry)) at edgeCountRows ⌝ }
 {
-    let NumberRead::Value(count, next) = leb128_reader::read_plan_number(bytes, at) else {
-        return Taken::Refused(1, at);
-    };
-    if graph::MAX_EDGES < count {
-        return Taken::Refused(3, at);
-    }
-    Taken::Number(count, next)
+    take_in(bytes, at, graph::MAX_EDGES + 1, 3, 0, 3)
 }
 
-// The difference of a tail to the tail before it: refusals 1 and 4.
+// The difference of a tail to the tail before it: refusals 1 and 4. The sum is tested, which may pass 32 bits.
 pub fn take_tail(bytes: &[u8], at: usize, vertices: u32, tail: u32) -> Taken
     ensures { λ r. ⌜ r ≡ take (now (bytes .entry)) at (tailRows vertices tail) ⌝ }
 {
@@ -51,27 +54,12 @@ pub fn take_tail(bytes: &[u8], at: usize, vertices: u32, tail: u32) -> Taken
 pub fn take_head(bytes: &[u8], at: usize, vertices: u32, least: u32) -> Taken
     ensures { λ r. ⌜ r ≡ take (now (bytes .entry)) at (headRows vertices least) ⌝ }
 {
-    let NumberRead::Value(head, next) = leb128_reader::read_plan_number(bytes, at) else {
-        return Taken::Refused(1, at);
-    };
-    if vertices <= head {
-        return Taken::Refused(4, at);
-    }
-    if head < least {
-        return Taken::Refused(6, at);
-    }
-    Taken::Number(head, next)
+    take_in(bytes, at, vertices, 4, least, 6)
 }
 
 // A cost: refusals 1 and 5.
 pub fn take_cost(bytes: &[u8], at: usize) -> Taken
     ensures { λ r. ⌜ r ≡ take (now (bytes .entry)) at costRows ⌝ }
 {
-    let NumberRead::Value(cost, next) = leb128_reader::read_plan_number(bytes, at) else {
-        return Taken::Refused(1, at);
-    };
-    if graph::MAX_COST < cost {
-        return Taken::Refused(5, at);
-    }
-    Taken::Number(cost, next)
+    take_in(bytes, at, graph::MAX_COST + 1, 5, 0, 5)
 }

@@ -53,7 +53,7 @@ module _ (job : Job) where
 
 -- ---- the loop
 
--- the search stands where so many turns lead, `left` being left of them
+-- the search stands where the turns made so far lead, `left` of the budget being left
 pub record Ran
     (z : Size) (q : Query) (anchor guides schedule : List ℕ) (n : ℕ) (s : Standing) (work route log : List ℕ) (left : ℕ) (going : Bool) (r : Standing)
     (work′ route′ log′ : List ℕ) : Type 0 where

@@ -52,7 +52,7 @@ pub record Running (z : Size) (q : Query) (anchor guides schedule : List ℕ) (s
   pub given : Given call anchor guides schedule
   pub reaches : Reaches call z (begin (jobOf call)) [] s work route log
 
--- so many turns, or as many as there are
+-- n turns, or as many as there are
 pub record Runs
     (z : Size) (q : Query) (anchor guides schedule : List ℕ) (n : ℕ) (s : Standing) (work route log : List ℕ) (r : Standing) (work′ route′ log′ : List ℕ) : Type 0 where
   pub runs :

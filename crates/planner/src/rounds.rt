@@ -34,7 +34,7 @@ fn end_round(work: &mut [u32], route: &mut [u32], z: Size, q: Query, p: Progress
     progress::after_round(q.guides, cost, p)
 }
 
-// Step 1, again and again while it finishes a round, where so many rounds are not finished yet.
+// Step 1, again and again while it finishes a round, where `left` rounds are not finished yet.
 pub fn settle(
     left: u32,
     work: &mut [u32],

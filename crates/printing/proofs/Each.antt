@@ -50,7 +50,7 @@ module _ (f : ℕ → ℕ → List ℕ) where
         Put m (f (k + i) (getD xs i 0)) mid end new → Put at (each f k (take (i + 1) xs)) old end new
     next-each first second = rw each-next (then-put first second)
 
-    -- it ends where the first so many do, or before
+    -- it ends where the first n do, or before
     pub each-counted :
         (count : ℕ) {at : ℕ} {old : List ℕ} {m : ℕ} {mid : List ℕ} → i < count → Put at (each f k (take i xs)) old m mid →
         Counted at (each f k (take count xs)) → Counted m (f (k + i) (getD xs i 0))

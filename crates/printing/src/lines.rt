@@ -17,7 +17,7 @@ fn put_turn_line(out: &mut [u8], at: usize, number: u64, heuristic: u64, vertex:
     buffer::put_byte(out, place, b'\n')
 }
 
-// The turns that a log shows: its first so many words, or all that there are.
+// The turns that a log shows: its first `count` words, or all that there are.
 pub fn put_turn_lines(out: &mut [u8], at: usize, log: &[u32], count: usize) -> usize
     requires { ⌜ Counted at (turnLines (take count (now log))) ⌝ }
     ensures { λ r. ⌜ Put at (turnLines (take count (now (log .entry)))) (now (out .entry)) r (now (out .exit)) ⌝ }
@@ -41,7 +41,7 @@ fn put_logged_line(out: &mut [u8], at: usize, number: usize, word: u32) -> usize
     put_turn_line(out, at, number as u64, shown / 65536, shown % 65536)
 }
 
-// A route (its vertices): the first so many of its slice, or all that there are.
+// A route (its vertices): the first `count` of its slice, or all that there are.
 pub fn put_route_line(out: &mut [u8], at: usize, route: &[u32], count: usize) -> usize
     requires { ⌜ Counted at (routeLine (take count (now route))) ⌝ }
     ensures { λ r. ⌜ Put at (routeLine (take count (now (route .entry)))) (now (out .entry)) r (now (out .exit)) ⌝ }

@@ -64,7 +64,7 @@ fn move_on(p: &mut Progress, guides: u32, ends: bool, cost: u64)
     p.cost = cost;
 }
 
-// The same by value.
+// The record moved on, by value: a local is lent to `move_on`.
 fn moved_on(p: Progress, guides: u32, ends: bool, cost: u64) -> Progress
     requires { ⌜ cond ends (p .rounds) (p .expansions) < maxCount ⌝ }
     ensures { λ r. ⌜ r ≡ moved ends guides cost p ⌝ }

@@ -27,7 +27,7 @@ pub fn offered(x: Vertex, i: u32, h: u32) -> bool
     false
 }
 
-// It, expanded for heuristic i.
+// A vertex expanded for heuristic i: not open, its g noted, marked for that search.
 pub fn marked(x: Vertex, i: u32) -> Vertex
     ensures { λ r. ⌜ r ≡ marked i x ⌝ }
 {
@@ -53,7 +53,7 @@ pub fn marked(x: Vertex, i: u32) -> Vertex
     }
 }
 
-// It, at the lower cost c, by an edge of s.
+// The head of an edge of s at its lower cost c: held if it has the anchor mark, else open.
 pub fn lowered(x: Vertex, c: u64, s: u32) -> Vertex
     ensures { λ r. ⌜ r ≡ lowered c s x ⌝ }
 {

@@ -26,7 +26,7 @@ fn origin() -> Vertex
     }
 }
 
-// It, at a round's beginning.
+// A vertex at a round's beginning: open where it was held or open, without marks.
 fn reopened(x: Vertex) -> Vertex
     ensures { λ r. ⌜ r ≡ reopened x ⌝ }
 {

@@ -1,4 +1,4 @@
--- `run` meets its contract: it stands where so many turns lead.
+-- `run` meets its contract: it stands where the turns of the budget lead.
 use native.Mathlib.Omega.{arith}
 use mathlib.Core.Path.{_≡_, refl}
 use lib.ListN.{length}

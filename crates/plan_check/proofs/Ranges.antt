@@ -1,0 +1,46 @@
+-- Laws of the numbers that have a range: V, M, a head and a cost have the rows that document 01 names.
+use Prim.Native.Nat.{ℕ, zero, suc, _+_}
+use mathlib.Core.Path.{_≡_, refl}
+use mathlib.Core.List.{List}
+use lib.Dec.{leb·suc-zero, leb·suc-suc, eqb·suc-zero}
+use Rattle.leb128.specs.declared.NumberRead.{NumberRead}
+use Rattle.leb128.specs.declared.NumberRead.the-variants.{Value, Refused}
+use Rattle.leb128.specs.Number.{read, planGroups}
+use Rattle.graph.specs.declared.Taken.the-variants.{Number}
+use Rattle.graph.specs.declared.Taken.the-variants as taken
+use Rattle.graph.specs.Limits.{maxVertices, maxEdges, maxCost}
+use Rattle.graph.specs.Rows.{Row, through, throughAll, take, vertexCountRows, edgeCountRows, headRows, costRows}
+use Rattle.plan_check.specs.Range.{rangeRows}
+
+module _ (s : List ℕ) (at : ℕ) where
+  -- rows that give the same for every number
+  module _ (rows rows′ : ℕ → List Row)
+      (same : (x next : ℕ) → through (rows x) (λ (n : ℕ). taken.Refused n at) (Number x next) ≡ through (rows′ x) (λ (n : ℕ). taken.Refused n at) (Number x next)) where
+    alike-by : (r : NumberRead) → throughAll rows at r ≡ throughAll rows′ at r
+    unfolding throughAll
+    alike-by (Refused p) = refl
+    alike-by (Value x next) = same x next
+
+    alike : take s at rows ≡ take s at rows′
+    unfolding take
+    alike = alike-by (read planGroups s at)
+
+  pub vertex-count-range : take s at (rangeRows (maxVertices + 1) 2 1 2) ≡ take s at vertexCountRows
+  unfolding rangeRows vertexCountRows through
+  vertex-count-range = alike (rangeRows (maxVertices + 1) 2 1 2) vertexCountRows same
+    where
+      same : (x next : ℕ) → through (rangeRows (maxVertices + 1) 2 1 2 x) (λ (n : ℕ). taken.Refused n at) (Number x next) ≡ through (vertexCountRows x) (λ (n : ℕ). taken.Refused n at) (Number x next)
+      same zero next = refl
+      same (suc x) next = rw (eqb·suc-zero x, leb·suc-suc (suc x) 0, leb·suc-zero x)
+
+  pub edge-count-range : take s at (rangeRows (maxEdges + 1) 3 0 3) ≡ take s at edgeCountRows
+  unfolding rangeRows edgeCountRows through
+  edge-count-range = alike (rangeRows (maxEdges + 1) 3 0 3) edgeCountRows (λ x next. rw (leb·suc-zero x))
+
+  pub cost-range : take s at (rangeRows (maxCost + 1) 5 0 5) ≡ take s at costRows
+  unfolding rangeRows costRows through
+  cost-range = alike (rangeRows (maxCost + 1) 5 0 5) costRows (λ x next. rw (leb·suc-zero x))
+
+  pub head-range : (v l : ℕ) → take s at (rangeRows v 4 l 6) ≡ take s at (headRows v l)
+  unfolding rangeRows headRows
+  head-range v l = refl
