@@ -1,4 +1,4 @@
--- What the private functions of consistency give: for their contracts alone, nothing that a reader must believe.
+-- An edge tried under the anchor rule: for contracts of private functions alone, nothing that a reader must believe.
 use Prim.Native.Nat.{ℕ, _+_}
 use mathlib.Core.Bool.{Bool, cond}
 use mathlib.Core.List.{List}

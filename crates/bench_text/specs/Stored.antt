@@ -1,4 +1,4 @@
--- What the private functions of this crate ask: for their contracts alone, nothing that a reader must believe.
+-- An accepted job, its factors and tables stored: for the contract of a private function alone, nothing that a reader must believe.
 use Prim.Native.Nat.{ℕ}
 use mathlib.Core.Path.{_≡_}
 use mathlib.Core.List.{List}

@@ -1,4 +1,4 @@
--- What the private function of this crate gives: for its contract alone, nothing that a reader must believe.
+-- A number of a bench job stored: for the contract of a private function alone, nothing that a reader must believe.
 use Prim.Native.Nat.{ℕ}
 use mathlib.Core.List.{List}
 use lib.ListN.{set}

@@ -1,4 +1,4 @@
--- What the private functions of this crate give: for their contracts alone, nothing that a reader must believe.
+-- An edge stored in work memory: for the contract of a private function alone, nothing that a reader must believe.
 use Prim.Native.Nat.{ℕ}
 use mathlib.Core.List.{List}
 use Rattle.graph.specs.declared.EdgeRead.{EdgeRead}

@@ -1,4 +1,4 @@
--- Laws for the step through a plan that was checked: a number that is read there passes its rows.
+-- Laws for going through a plan that was checked: a number that is read there passes its rows.
 use Prim.Native.Nat.{ℕ, _-_}
 use native.Mathlib.Omega.{arith}
 use mathlib.Core.Path.{_≡_, sym, _∙_, subst}

@@ -1,4 +1,4 @@
--- What the private functions of reading ask and give: for their contracts alone, nothing that a reader must believe.
+-- An edge of a checked plan stored in the lists: for contracts of private functions alone, nothing that a reader must believe.
 use Prim.Native.Nat.{ℕ}
 use mathlib.Core.List.{List}
 use mathlib.Core.Path.{_≡_}

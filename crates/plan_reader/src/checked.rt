@@ -1,4 +1,4 @@
-// The cursor's step through a plan that was checked: its numbers are read and no row is tried.
+// The next edge of a plan that was checked: its numbers are read and no row is tried.
 ghost use mathlib.Core.Path.{_≡_};
 ghost use Rattle.graph.specs.Plan.{nextEdge};
 ghost use Rattle.plan_reader.specs.Stored.{HasNext};

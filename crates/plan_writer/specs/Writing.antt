@@ -1,4 +1,4 @@
--- What the writer's private functions give: for their contracts alone, nothing that a reader must believe.
+-- A plan measured and laid: for contracts of private functions alone, nothing that a reader must believe.
 use Prim.Native.Nat.{ℕ, _+_, _^_, _≤_, _<_}
 use mathlib.Core.Path.{_≡_}
 use mathlib.Core.Bool.{Bool, _&&_, _||_}

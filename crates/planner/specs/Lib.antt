@@ -1,7 +1,7 @@
+pub mod Plan
 pub mod Carried
+pub mod Begun
 pub mod Reached
 pub mod Going
-pub mod Begun
 pub mod Finished
-pub mod Plan
 pub mod Planning

@@ -1,4 +1,4 @@
-// The answer to a planner call: refused, or the search begun, run and handed over.
+// The answer to a call that is not refused: the search begun, run and handed over.
 ghost use Rattle.planner.specs.Planning.{Admission, Answers};
 use crate::Query;
 use crate::begin;

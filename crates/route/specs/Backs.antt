@@ -1,4 +1,4 @@
--- What the private functions of this crate give: for their contracts alone, nothing that a reader must believe.
+-- A vertex and its predecessors, as they are laid into route memory: for contracts of private functions alone, nothing that a reader must believe.
 use Prim.Native.Nat.{ℕ, zero, suc}
 use mathlib.Core.List.{List, _∷_}
 use Rattle.search.specs.declared.Vertex.{Vertex}

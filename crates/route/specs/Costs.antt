@@ -1,4 +1,4 @@
--- What the private functions of this crate give, and bounds of costs: for contracts alone, nothing that a reader must believe.
+-- Costs of edges and walks as the trace finds, adds and bounds them: for contracts of private functions alone, nothing that a reader must believe.
 use Prim.Native.Nat.{ℕ, _+_, _*_, _≤_}
 use mathlib.Core.Path.{_≡_}
 use mathlib.Core.List.{List}

@@ -1,4 +1,4 @@
--- What the private functions of the schedule give: for their contracts alone, nothing that a reader must believe.
+-- A factor out of range or rising: for the contract of a private function alone, nothing that a reader must believe.
 use Prim.Native.Nat.{ℕ, _+_, _-_}
 use mathlib.Core.Bool.{Bool, _&&_, _||_}
 use mathlib.Core.List.{List}
