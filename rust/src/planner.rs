@@ -135,7 +135,7 @@ pub enum Event {
     },
     /// Step 2 ends the search in this round.
     Cut { round: u32, turns: u32 },
-    /// Step 1 ends the search; so many vertices are held.
+    /// Step 1 ends the search; `held` counts the vertices that are held.
     NoRoute { round: u32, turns: u32, held: u32 },
 }
 

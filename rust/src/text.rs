@@ -230,8 +230,8 @@ pub fn pairs(text: &str) -> Option<Vec<u8>> {
     text.split_whitespace().map(pair).collect()
 }
 
-/// Bytes as hexadecimal pairs, so many on a line; each line begins with a
-/// word if there is one.
+/// Bytes as hexadecimal pairs, a fixed count on a line; each line begins with
+/// a word if there is one.
 pub fn pairs_text(word: &str, bytes: &[u8]) -> String {
     if bytes.is_empty() {
         return format!("{word}\n");

@@ -2,9 +2,8 @@
 //! equal memory on every job, equal printed texts, every kind of ending and
 //! every rare event met.
 //!
-//! The variable `SECONDCOOP_JOBS` asks for about so many jobs in the first
-//! test and as many texts as a fifth of them, `SECONDCOOP_SEED` for other
-//! jobs.
+//! The variable `SECONDCOOP_JOBS` is about the count of jobs in the first
+//! test, with a fifth as many texts; `SECONDCOOP_SEED` asks for other jobs.
 
 use std::env;
 use std::str::FromStr;
@@ -18,7 +17,7 @@ use secondcoop_tests::planners::{
 };
 
 const JOBS: usize = 150_000;
-/// A job comes with about so many budgets.
+/// The count of budgets that a job comes with, about.
 const BUDGETS: usize = 5;
 
 /// What a variable asks for, if it is set.

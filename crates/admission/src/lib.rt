@@ -2,7 +2,6 @@
 mod consistency;
 mod rows;
 
-ghost use Rattle.graph.specs.declared.PlanRead.the-variants.{Sizes};
 ghost use Rattle.admission.specs.Admission.{Decided};
 use graph::Header;
 use graph::PlanRead;

@@ -1,5 +1,4 @@
 // The numbers of a bench job in a row, passed over.
-ghost use Prim.Native.Nat.{_<_};
 ghost use mathlib.Core.Path.{_≡_};
 ghost use Rattle.job.specs.Numbers.{endOf};
 use job::NumbersRead;

@@ -3,7 +3,7 @@ mod buffer;
 mod end_lines;
 mod lines;
 
-ghost use Rattle.search.specs.declared.Answer.the-variants.{Route, NoRoute, Unfinished, Refused};
+ghost use Rattle.search.specs.declared.Answer.the-variants.{Route, NoRoute, Unfinished};
 ghost use Rattle.job.specs.Texts.{BenchSized};
 ghost use Rattle.printing.specs.Shown.{Shown, Refuses};
 use search::Answer;

@@ -1,9 +1,9 @@
 // Vertices loaded from work memory and stored in it.
 ghost use mathlib.Core.Path.{_≡_};
-ghost use Prim.Native.Nat.{_+_, _*_, _<_};
+ghost use Prim.Native.Nat.{_<_};
 ghost use lib.ListN.{set};
 ghost use Rattle.search.specs.Job.{at};
-ghost use Rattle.workspace.specs.Layout.{base, Room, verticesOf, written, Fits, Ready};
+ghost use Rattle.workspace.specs.Layout.{Room, verticesOf, written, Fits, Ready};
 use crate::Size;
 use crate::words;
 use search::Vertex;

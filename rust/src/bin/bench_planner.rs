@@ -14,7 +14,8 @@ use secondcoop_tests::random::Random;
 
 /// Runs of each side, alternating; the median counts.
 const RUNS: usize = 15;
-/// A run has as many calls as take about so many nanoseconds, one at least.
+/// Nanoseconds that the calls of a run take together, about; a run has one
+/// call at least.
 const RUN_TIME: f64 = 50_000_000.0;
 
 /// A floor of width × height vertices, which closes round at its edges; from
