@@ -35,7 +35,7 @@ fn breaks(edge: Edge, anchor: &[u32]) -> bool
     through < anchor[tail] as u64
 }
 
-// The next edge tried.
+// The next edge, tried under the anchor rule.
 fn try_edge(bytes: &[u8], vertices: u32, anchor: &[u32], cursor: Cursor) -> Tried
     requires { ⌜ length (now anchor) ≡ vertices ⌝ }
     ensures { λ r. ⌜ r ≡ steps.tried (now (anchor .entry)) (nextEdge vertices (now (bytes .entry)) cursor) ⌝ }

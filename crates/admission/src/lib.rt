@@ -12,7 +12,8 @@ pub enum Verdict {
     Refused(u32, usize),
 }
 
-// The first fault of a planner call, or none: plan faults 1 to 7, then the rows 8 to 13.
+// The verdict on a planner call: refused for its first fault, those of the plan (1 to 7) before the rows 8 to
+// 13; or admitted, with V and M of its plan.
 pub fn decide(
     bytes: &[u8],
     start: u32,

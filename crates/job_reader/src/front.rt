@@ -71,7 +71,7 @@ fn read_ends(job: &[u8], plan_at: usize, plan_end: usize) -> FrontRead
     read_rounds(job, plan_at, plan_end, start, goal, budget, at)
 }
 
-// The plan's place, and what follows.
+// Where the plan begins and ends, and what follows.
 pub fn read_front(job: &[u8]) -> FrontRead
     ensures { λ r. ⌜ r ≡ front (now (job .entry)) ⌝ }
 {

@@ -51,7 +51,7 @@ fn read_plan(job: &[u8], front: Front, checked: PlanRead) -> JobRead
     }
 }
 
-// The whole job.
+// The whole job: accepted, with V of its plan; or refused, with 14 or by its plan.
 pub fn read(job: &[u8]) -> JobRead
     ensures { λ r. ⌜ r ≡ jobRead (now (job .entry)) ⌝ }
 {

@@ -48,7 +48,7 @@ pub fn check_edges(bytes: &[u8], vertices: u32, edges: u32, at: usize) -> PlanRe
     }
 }
 
-// The whole plan.
+// The whole plan: V and M, or its first refusal.
 pub fn check(bytes: &[u8]) -> PlanRead
     ensures { λ r. ⌜ r ≡ sizes (decode (now (bytes .entry))) ⌝ }
 {

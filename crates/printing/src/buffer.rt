@@ -3,7 +3,7 @@ ghost use mathlib.Core.List.{_∷_, []};
 ghost use Rattle.text.specs.Laid.{Put, Counted};
 ghost use Rattle.text.specs.Text.{digits, field};
 
-// One byte.
+// One byte, if there is room; the offset past it in either case.
 pub fn put_byte(out: &mut [u8], at: usize, byte: u8) -> usize
     requires { ⌜ Counted at (byte ∷ []) ⌝ }
     ensures { λ r. ⌜ Put at (byte ∷ []) (now (out .entry)) r (now (out .exit)) ⌝ }

@@ -20,7 +20,7 @@ fn next_turn(n: u32, i: u32) -> u32
     if i < n { i + 1 } else { first_turn(n) }
 }
 
-// The record at first.
+// The record at first: guide 1 has the turn, if there are guides, and nothing is counted yet.
 pub fn at_first(guides: u32) -> Progress
     ensures { λ r. ⌜ r ≡ firstProgress guides ⌝ }
 {
@@ -74,7 +74,7 @@ fn moved_on(p: Progress, guides: u32, ends: bool, cost: u64) -> Progress
     q
 }
 
-// The record after a turn.
+// The record after a turn: the next guide's turn, and one expansion more.
 pub fn after_turn(guides: u32, p: Progress) -> Progress
     requires { ⌜ p .expansions < maxCount ⌝ }
     ensures { λ r. ⌜ r ≡ turned guides p ⌝ }

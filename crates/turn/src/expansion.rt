@@ -38,7 +38,7 @@ fn relax_all(work: &mut [u32], z: Size, s: u32, g: u64)
     }
 }
 
-// Expands s for heuristic i.
+// Expands s for heuristic i: s is marked, and its edges are tried in plan order.
 pub fn expand(work: &mut [u32], z: Size, i: u32, s: u32)
     requires { ⌜ Ready z (now work) × (s < z .vertices) ⌝ }
     ensures { λ _. ⌜ now (work .exit) ≡ written z (expand (graphOf z (now (work .entry))) i s (verticesOf z (now (work .entry)))) (now (work .entry)) ⌝ }

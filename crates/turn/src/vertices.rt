@@ -5,7 +5,7 @@ ghost use Rattle.search.specs.Turn.{key, offered, marked, lowered};
 ghost use Rattle.search.specs.Bounds.{maxFactor, maxG, maxKey};
 use search::Vertex;
 
-// Its key, where h is the heuristic's number for it.
+// The key of a vertex, where h is the heuristic's number for it.
 pub fn key(x: Vertex, w1: u32, h: u32) -> u64
     requires { ⌜ (w1 ≤ maxFactor) × (x .g ≤ maxG) ⌝ }
     ensures { λ r. ⌜ (r ≡ key w1 h x) × (r ≤ maxKey) ⌝ }
@@ -14,7 +14,7 @@ pub fn key(x: Vertex, w1: u32, h: u32) -> u64
     100 * g + (w1 as u64) * (h as u64)
 }
 
-// Whether heuristic i, whose number for it is h, may expand it.
+// Whether heuristic i, whose number for the vertex is h, may expand it.
 pub fn offered(x: Vertex, i: u32, h: u32) -> bool
     ensures { λ r. ⌜ r ≡ offered i h x ⌝ }
 {

@@ -11,7 +11,7 @@ use crate::vertex_words;
 use crate::words;
 use search::Vertex;
 
-// The start.
+// The start at first: its g is 0, and it is open.
 fn origin() -> Vertex
     ensures { λ r. ⌜ r ≡ origin ⌝ }
 {

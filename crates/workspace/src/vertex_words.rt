@@ -8,7 +8,7 @@ use crate::Size;
 use crate::words;
 use search::Vertex;
 
-// Vertex p.
+// Vertex p, as its four words say.
 pub fn load(work: &[u32], z: Size, p: u32) -> Vertex
     requires { ⌜ Room z (now work) × (p < z .vertices) ⌝ }
     ensures { λ r. ⌜ (r ≡ at (verticesOf z (now (work .entry))) p) × Fits r ⌝ }
