@@ -1,4 +1,4 @@
--- The verdict on a planner call: it is admitted, with V and M of its plan, or refused.
+-- The verdict on a planner call, admitted with V and M of its plan or refused: for the contract of `decide`, nothing that a reader must believe.
 use Prim.Native.Nat.{ℕ}
 use mathlib.Core.Path.{_≡_}
 use mathlib.Core.List.{List}

@@ -1,4 +1,4 @@
--- What is decided of a call by its first fault: it is admitted, with V and M of its plan, or refused.
+-- What is decided of a call by its first fault: for contracts of admission, nothing that a reader must believe.
 use Prim.Native.Nat.{ℕ}
 use Rattle.graph.specs.Lists.{Fault, none, fault}
 use Rattle.admission.specs.declared.Verdict.{Verdict}

@@ -10,14 +10,15 @@ ghost use Rattle.graph.specs.Plan.{firstAt, nextEdge, edgesFrom, sizes};
 ghost use Rattle.graph.specs.Lists.{edgesIn};
 ghost use Rattle.search.specs.Call.{row, first, edgesRow};
 ghost use Rattle.admission.specs.Verdict.{verdict};
-ghost use Rattle.admission.specs.Tried as steps;
+ghost use Rattle.admission.specs.Tried as rule;
 use crate::Verdict;
 use graph::Cursor;
 use graph::Edge;
 use graph::EdgeRead;
 use plan_check::cursor;
 
-// An edge that was tried: the anchor rule holds on it, with the cursor past it; or it breaks the rule.
+// An edge that was tried: the anchor rule holds on it, with the cursor past it; or it breaks the rule (also
+// where no edge is read, which a checked plan rules out).
 enum Tried {
     Holds(Cursor),
     Breaks,
@@ -27,7 +28,7 @@ enum Tried {
 fn breaks(edge: Edge, anchor: &[u32]) -> bool
     requires { ⌜ edge .tail < length (now anchor) ⌝ }
     requires { ⌜ edge .head < length (now anchor) ⌝ }
-    ensures { λ r. ⌜ r ≡ steps.breaks (now (anchor .entry)) edge ⌝ }
+    ensures { λ r. ⌜ r ≡ rule.breaks (now (anchor .entry)) edge ⌝ }
 {
     let tail = edge.tail as usize;
     let head = edge.head as usize;
@@ -38,7 +39,7 @@ fn breaks(edge: Edge, anchor: &[u32]) -> bool
 // The next edge, tried under the anchor rule.
 fn try_edge(bytes: &[u8], vertices: u32, anchor: &[u32], cursor: Cursor) -> Tried
     requires { ⌜ length (now anchor) ≡ vertices ⌝ }
-    ensures { λ r. ⌜ r ≡ steps.tried (now (anchor .entry)) (nextEdge vertices (now (bytes .entry)) cursor) ⌝ }
+    ensures { λ r. ⌜ r ≡ rule.tried (now (anchor .entry)) (nextEdge vertices (now (bytes .entry)) cursor) ⌝ }
 {
     let EdgeRead::Next(edge, next) = cursor::next_edge(cursor, bytes, vertices) else {
         return Tried::Breaks;

@@ -10,7 +10,7 @@ ghost use Rattle.admission.specs.Admission.{Decided};
 use crate::Verdict;
 use crate::consistency;
 
-// The most inadmissible heuristics.
+// How many inadmissible heuristics (guide sheets) a call may have.
 const MAX_GUIDES: u32 = 8;
 
 // Row 8: start or goal is not a vertex.

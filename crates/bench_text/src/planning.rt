@@ -63,12 +63,19 @@ fn plan_stored(
     requires { ⌜ Stored (now job) front vertices (now schedule) (now tables) ⌝ }
     ensures { λ r. ⌜ Texts (callText (callAsked (now (job .entry)) front vertices)) (now (out .entry)) r (now (out .exit)) ⌝ }
 {
-    let plan = front.plan_at;
-    let end = front.plan_end;
+    let plan_at = front.plan_at;
+    let plan_end = front.plan_end;
     let each = vertices as usize;
     let anchor = &tables[..each];
     let sheets = &tables[each..];
-    plan_call(out, &job[plan..end], front, anchor, sheets, schedule)
+    plan_call(
+        out,
+        &job[plan_at..plan_end],
+        front,
+        anchor,
+        sheets,
+        schedule,
+    )
 }
 
 // An accepted job: its factors and tables are stored, and what follows.

@@ -21,7 +21,7 @@ maxJobRounds = 16
 abbrev pub maxJobGuides : ℕ
 maxJobGuides = 8
 
--- ---- broken: bytes missing, a number of bad form, over 16 rounds or 8 guides
+-- ---- refused: bytes missing, a number of bad form, over 16 rounds or 8 guides
 
 -- what follows a number
 unfoldable pub following : NumberRead → (ℕ → ℕ → FrontRead) → FrontRead

@@ -9,9 +9,9 @@ use job::NumbersRead;
 use leb128::NumberRead;
 
 // The limits of a job: its rounds and guides.
-pub const MAX_JOB_ROUNDS: u32 = 16;
+const MAX_JOB_ROUNDS: u32 = 16;
 
-pub const MAX_JOB_GUIDES: u32 = 8;
+const MAX_JOB_GUIDES: u32 = 8;
 
 // Rounds and factors, and the guide count.
 fn read_rounds(

@@ -13,14 +13,14 @@ use job::JobRead;
 use job::NumbersRead;
 
 // The limits of a job: its bytes, vertices (places) and edges (lanes).
-pub const MAX_JOB_BYTES: usize = 32768;
+const MAX_JOB_BYTES: usize = 32768;
 
-pub const MAX_JOB_VERTICES: u32 = 256;
+const MAX_JOB_VERTICES: u32 = 256;
 
-pub const MAX_JOB_EDGES: u32 = 2048;
+const MAX_JOB_EDGES: u32 = 2048;
 
 // V, M, and the tables, which end the job.
-fn read_tables(job: &[u8], front: Front, vertices: u32, edges: u32) -> JobRead
+fn after_sizes(job: &[u8], front: Front, vertices: u32, edges: u32) -> JobRead
     ensures { λ r. ⌜ r ≡ afterSizes (now (job .entry)) front vertices edges ⌝ }
 {
     if MAX_JOB_VERTICES < vertices {
@@ -42,11 +42,11 @@ fn read_tables(job: &[u8], front: Front, vertices: u32, edges: u32) -> JobRead
 }
 
 // The job after its plan was checked.
-fn read_plan(job: &[u8], front: Front, checked: PlanRead) -> JobRead
+fn after_plan(job: &[u8], front: Front, checked: PlanRead) -> JobRead
     ensures { λ r. ⌜ r ≡ afterPlan (now (job .entry)) front checked ⌝ }
 {
     match checked {
-        PlanRead::Sizes(vertices, edges) => read_tables(job, front, vertices, edges),
+        PlanRead::Sizes(vertices, edges) => after_sizes(job, front, vertices, edges),
         PlanRead::Refused(n, p) => JobRead::Refused(n, p),
     }
 }
@@ -61,8 +61,8 @@ pub fn read(job: &[u8]) -> JobRead
     let FrontRead::Whole(front) = front::read_front(job) else {
         return JobRead::Refused(14, 0);
     };
-    let plan = front.plan_at;
-    let end = front.plan_end;
-    let checked = plan_check::check(&job[plan..end]);
-    read_plan(job, front, checked)
+    let plan_at = front.plan_at;
+    let plan_end = front.plan_end;
+    let checked = plan_check::check(&job[plan_at..plan_end]);
+    after_plan(job, front, checked)
 }

@@ -1,4 +1,4 @@
--- Laws for the code that reads the header of a plan, and then the rest: each step of it gives what the definition gives.
+-- Laws for the code that reads the header of a plan, and then the rest: each part of it gives what the definition gives.
 use Prim.Native.Nat.{ℕ}
 use mathlib.Core.Path.{_≡_}
 use mathlib.Core.List.{List}

@@ -1,4 +1,4 @@
--- Laws for the code that reads the edges of a plan: each step of it gives what the definition gives.
+-- Laws for the code that reads the edges of a plan: each part of it gives what the definition gives.
 use Prim.Native.Nat.{ℕ, suc, _+_, _-_, _≤_, _<_}
 use native.Mathlib.Omega.{arith}
 use mathlib.Core.Path.{_≡_, refl, sym, ap, _∙_}

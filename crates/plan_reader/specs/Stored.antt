@@ -9,7 +9,7 @@ use Rattle.graph.specs.declared.EdgeRead.{EdgeRead}
 use Rattle.graph.specs.declared.EdgeRead.the-variants.{Next, Refused}
 use Rattle.graph.specs.Plan.{nextEdge}
 
--- the step from a cursor gives an edge, as in a plan that was checked
+-- an edge is next after the cursor, as in a plan that was checked
 pub record HasNext (v : ℕ) (s : List ℕ) (c : Cursor) : Type 0 where
   pub edge : Edge
   pub after : Cursor

@@ -1,4 +1,4 @@
-// The next edge of a plan that was checked: its numbers are read and no row is tried.
+// The next edge of a plan that was checked: its numbers are read, and of their rows only the first is tried, by reading.
 ghost use mathlib.Core.Path.{_≡_};
 ghost use Rattle.graph.specs.Plan.{nextEdge};
 ghost use Rattle.plan_reader.specs.Stored.{HasNext};
@@ -7,7 +7,7 @@ use graph::Edge;
 use graph::EdgeRead;
 use leb128::NumberRead;
 
-// The next edge of a plan that was checked, and the cursor past it: its numbers pass their rows.
+// The next edge and the cursor past it. The refusals are never given: in a checked plan each number is read.
 pub fn next_edge(cursor: Cursor, bytes: &[u8], vertices: u32) -> EdgeRead
     requires { ⌜ HasNext vertices (now bytes) cursor ⌝ }
     ensures { λ r. ⌜ r ≡ nextEdge vertices (now (bytes .entry)) cursor ⌝ }

@@ -1,4 +1,4 @@
-// The search at first: the graph and the first vertices in work memory, and what step 1 says of them.
+// The search at first: the graph and the vertices at first in work memory, and what step 1 says of them.
 ghost use Rattle.planner.specs.Begun.{Beginning, Begins};
 use crate::Query;
 use crate::Standing;
@@ -6,8 +6,8 @@ use crate::rounds;
 use workspace::Size;
 use workspace::round_start;
 
-// The plan's graph is loaded, whose first edge stands at an offset, the first vertices are laid, and the
-// search begins.
+// The plan's graph is loaded, whose first edge stands at an offset, the vertices at first are laid, and
+// the search begins.
 pub fn begin(
     bytes: &[u8],
     work: &mut [u32],

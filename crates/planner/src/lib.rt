@@ -14,7 +14,7 @@ use workspace::Size;
 
 // What is asked besides the plan: the ends, the number of inadmissible heuristics (guides), and the number
 // of rounds in force.
-pub struct Query {
+struct Query {
     pub start: u32,
     pub goal: u32,
     pub guides: u32,
@@ -22,7 +22,7 @@ pub struct Query {
 }
 
 // Where the search stands between two turns: what step 1 said, and the record of the search in hand.
-pub struct Standing {
+struct Standing {
     pub step: Step,
     pub progress: Progress,
 }

@@ -12,8 +12,8 @@ use Rattle.text.specs.Text.{each}
 use Rattle.text.proofs.Laid.{put-nil, then-put}
 
 -- as many as there are
-pub take-least : (count i : ℕ) (xs : List ℕ) → i ≡ min count (length xs) → take i xs ≡ take count xs
-take-least count i xs e =
+pub take-lesser : (count i : ℕ) (xs : List ℕ) → i ≡ min count (length xs) → take i xs ≡ take count xs
+take-lesser count i xs e =
     elim (decLe count (length xs)) [
       | yes h ↦ let c : i ≡ count = omega arith in ap (λ (n : ℕ). take n xs) c
       | no h ↦ take-all i xs (omega arith) ∙ sym (take-all count xs (omega arith))

@@ -1,4 +1,4 @@
--- The printed text of an answer, and of a refusal, in a lent buffer: for the contracts of this crate alone.
+-- The printed text of an answer, and of a refusal, in a lent buffer: for the contracts of this crate alone, nothing that a reader must believe.
 use Prim.Native.Nat.{ℕ}
 use mathlib.Core.List.{List}
 use Rattle.text.specs.Text.{refusedLine}

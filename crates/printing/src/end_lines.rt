@@ -16,11 +16,11 @@ pub fn put_end_line(
     requires { ⌜ Counted at (endLine cost rounds turns bound) ⌝ }
     ensures { λ r. ⌜ Put at (endLine cost rounds turns bound) (now (out .entry)) r (now (out .exit)) ⌝ }
 {
-    let a = buffer::put_field(out, at, b"end cost ", cost);
-    let b = buffer::put_field(out, a, b" rounds ", rounds);
-    let c = buffer::put_field(out, b, b" turns ", turns);
-    let d = buffer::put_field(out, c, b" bound ", bound);
-    buffer::put_byte(out, d, b'\n')
+    let after_cost = buffer::put_field(out, at, b"end cost ", cost);
+    let after_rounds = buffer::put_field(out, after_cost, b" rounds ", rounds);
+    let after_turns = buffer::put_field(out, after_rounds, b" turns ", turns);
+    let after_bound = buffer::put_field(out, after_turns, b" bound ", bound);
+    buffer::put_byte(out, after_bound, b'\n')
 }
 
 // The end of a search without a route: words, and after them the turns.
@@ -37,7 +37,7 @@ pub fn put_refused_line(out: &mut [u8], at: usize, number: u64, position: u64) -
     requires { ⌜ Counted at (refusedLine number position) ⌝ }
     ensures { λ r. ⌜ Put at (refusedLine number position) (now (out .entry)) r (now (out .exit)) ⌝ }
 {
-    let word = buffer::put_field(out, at, b"refused ", number);
-    let end = buffer::put_field(out, word, b" at ", position);
+    let after_number = buffer::put_field(out, at, b"refused ", number);
+    let end = buffer::put_field(out, after_number, b" at ", position);
     buffer::put_byte(out, end, b'\n')
 }

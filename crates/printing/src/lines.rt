@@ -11,10 +11,10 @@ fn put_turn_line(out: &mut [u8], at: usize, number: u64, heuristic: u64, vertex:
     requires { ⌜ Counted at (turnLine number heuristic vertex) ⌝ }
     ensures { λ r. ⌜ Put at (turnLine number heuristic vertex) (now (out .entry)) r (now (out .exit)) ⌝ }
 {
-    let turn = buffer::put_field(out, at, b"turn ", number);
-    let table = buffer::put_field(out, turn, b" table ", heuristic);
-    let place = buffer::put_field(out, table, b" place ", vertex);
-    buffer::put_byte(out, place, b'\n')
+    let after_turn = buffer::put_field(out, at, b"turn ", number);
+    let after_table = buffer::put_field(out, after_turn, b" table ", heuristic);
+    let after_place = buffer::put_field(out, after_table, b" place ", vertex);
+    buffer::put_byte(out, after_place, b'\n')
 }
 
 // The turns that a log shows: its first `count` words, or all that there are.
@@ -22,7 +22,7 @@ pub fn put_turn_lines(out: &mut [u8], at: usize, log: &[u32], count: usize) -> u
     requires { ⌜ Counted at (turnLines (take count (now log))) ⌝ }
     ensures { λ r. ⌜ Put at (turnLines (take count (now (log .entry)))) (now (out .entry)) r (now (out .exit)) ⌝ }
 {
-    let shown = least(count, log.len());
+    let shown = lesser(count, log.len());
     let mut next = at;
     let mut i = 0;
     while i < shown {
@@ -46,8 +46,8 @@ pub fn put_route_line(out: &mut [u8], at: usize, route: &[u32], count: usize) ->
     requires { ⌜ Counted at (routeLine (take count (now route))) ⌝ }
     ensures { λ r. ⌜ Put at (routeLine (take count (now (route .entry)))) (now (out .entry)) r (now (out .exit)) ⌝ }
 {
-    let word = buffer::put_word(out, at, b"route");
-    let end = put_vertices(out, word, route, count);
+    let after_word = buffer::put_word(out, at, b"route");
+    let end = put_vertices(out, after_word, route, count);
     buffer::put_byte(out, end, b'\n')
 }
 
@@ -56,7 +56,7 @@ fn put_vertices(out: &mut [u8], at: usize, route: &[u32], count: usize) -> usize
     requires { ⌜ Counted at (vertices (take count (now route))) ⌝ }
     ensures { λ r. ⌜ Put at (vertices (take count (now (route .entry)))) (now (out .entry)) r (now (out .exit)) ⌝ }
 {
-    let shown = least(count, route.len());
+    let shown = lesser(count, route.len());
     let mut next = at;
     let mut i = 0;
     while i < shown {
@@ -75,7 +75,7 @@ fn put_vertex(out: &mut [u8], at: usize, vertex: u32) -> usize
 }
 
 // The lesser of two numbers.
-fn least(a: usize, b: usize) -> usize
+fn lesser(a: usize, b: usize) -> usize
     ensures { λ r. ⌜ r ≡ min a b ⌝ }
 {
     if a < b { a } else { b }

@@ -30,7 +30,7 @@ pub pred-past : (st : List Vertex) (x : ℕ) → length st ≤ x → at st x .pr
 unfolding at fresh
 pred-past st x h = ap (λ (p : Vertex). p .pred) (List·getD-eq-default st fresh h)
 
--- ---- a step of the trace
+-- ---- one vertex further back
 
 module _ (st : List Vertex) (start : ℕ) where
   trace-on : (n x : ℕ) (r : List ℕ) (t : Bool) → eqb x start ≡ t

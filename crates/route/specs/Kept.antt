@@ -1,4 +1,4 @@
--- What a finished round does to the incumbent (the kept route) and to route memory.
+-- What a finished round does to the incumbent (the kept route) and to route memory: for contracts inside the planner call, nothing that a reader must believe.
 use Prim.Native.Nat.{ℕ}
 use mathlib.Core.Bool.{cond}
 use mathlib.Core.List.{List, [], _∷_}

@@ -1,4 +1,4 @@
--- The trace of predecessors from the goal, as work memory has it, and its figures.
+-- The trace of predecessors from the goal, as work memory has it, and its figures: for contracts inside the planner call, nothing that a reader must believe.
 use Prim.Native.Nat.{ℕ}
 use mathlib.Core.List.{List, []}
 use lib.ListN.{length, getD}

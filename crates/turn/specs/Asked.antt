@@ -1,4 +1,4 @@
--- What a turn is asked, and what it chooses, as the code sees it.
+-- What a turn is asked, and what it chooses, as the code sees it: for contracts inside the planner call, nothing that a reader must believe.
 use Prim.Native.Nat.{ℕ, _+_, _-_, _*_, _≤_}
 use mathlib.Core.List.{List}
 use lib.ListN.{length, take, drop}

@@ -14,7 +14,8 @@ pub fn key(x: Vertex, w1: u32, h: u32) -> u64
     100 * g + (w1 as u64) * (h as u64)
 }
 
-// Whether heuristic i, whose number for the vertex is h, may expand it.
+// Whether heuristic i, whose number for the vertex is h, may expand it (h is not used here: a rule of a later
+// release reads it).
 pub fn offered(x: Vertex, i: u32, h: u32) -> bool
     ensures { λ r. ⌜ r ≡ offered i h x ⌝ }
 {

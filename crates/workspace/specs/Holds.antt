@@ -1,4 +1,4 @@
--- Work memory holds a graph and vertices: the one relation between its words and the state of a search.
+-- Work memory holds a graph and vertices, the one relation between its words and the state of a search: for contracts inside the planner call, nothing that a reader must believe.
 use Prim.Native.Nat.{ℕ, _≤_, _<_}
 use mathlib.Core.Path.{_≡_}
 use mathlib.Core.List.{List, [], _∷_}

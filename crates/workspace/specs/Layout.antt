@@ -1,4 +1,4 @@
--- The layout of work memory: V+1 first edge numbers (the last is M), M heads, M costs, and four words together for each vertex.
+-- The layout of work memory (V+1 first edge numbers, M heads, M costs, four words for each vertex): for contracts inside the planner call, nothing that a reader must believe.
 use Prim.Native.Nat.{ℕ, zero, suc, _+_, _-_, _*_, _/_, _%_, _≤_, _<_}
 use mathlib.Core.Path.{_≡_}
 use mathlib.Core.Bool.{Bool}

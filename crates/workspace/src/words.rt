@@ -7,7 +7,7 @@ use crate::Size;
 use search::Vertex;
 
 // k where the mark is set.
-pub fn mark(k: u32, on: bool) -> u32
+fn mark(k: u32, on: bool) -> u32
     ensures { λ r. ⌜ (r ≡ cond on k 0) × (r ≤ k) ⌝ }
 {
     if on { k } else { 0 }

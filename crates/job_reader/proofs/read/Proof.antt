@@ -37,12 +37,12 @@ part-check-end c = front-fits _ _ (sym (c .before .before .before .read-front .e
 check-requires : tie.Need-check-requires
 check-requires c κs = search needs
 
-read-plan-requires : tie.Need-read-plan-requires
-read-plan-requires c κs = search needs
+after-plan-requires : tie.Need-after-plan-requires
+after-plan-requires c κs = search needs
 
 returns-3 : tie.Need-returns-3
 unfolding jobRead afterFront planOf
-returns-3 c = fails _ _ _ _ (le-ltb _ _ (c .before .before .before .before .before .before .before .if1 .left)) (c .read-plan .ensures ∙ ap (afterPlan _ _) (c .before .check .ensures) ∙ sym (ap (afterFront _) (sym (c .before .before .before .before .before .before .read-front .ensures) ∙ c .before .before .before .before .front .given .1)))
+returns-3 c = fails _ _ _ _ (le-ltb _ _ (c .before .before .before .before .before .before .before .if1 .left)) (c .after-plan .ensures ∙ ap (afterPlan _ _) (c .before .check .ensures) ∙ sym (ap (afterFront _) (sym (c .before .before .before .before .before .before .read-front .ensures) ∙ c .before .before .before .before .front .given .1)))
 
 pub read-spec : {M : Type 1} → statement M
 read-spec =
@@ -57,5 +57,5 @@ read-spec =
     part-check-start
     part-check-end
     check-requires
-    read-plan-requires
+    after-plan-requires
     returns-3)

@@ -6,7 +6,7 @@ use borrow.Author.Needs.{needs}
 use Rattle.text.specs.Laid.{Put}
 use Rattle.text.specs.Text.{loggedLine, turnLines}
 use Rattle.text.proofs.Laid.{put-length}
-use Rattle.printing.proofs.Each.{none-each, next-each, each-counted, take-least}
+use Rattle.printing.proofs.Each.{none-each, next-each, each-counted, take-lesser}
 use Rattle.printing.proofs.lines.put_turn_lines.Statement.{statement}
 use Rattle.printing.proofs.lines.put_turn_lines.Tie as tie
 
@@ -16,8 +16,8 @@ Inv-loop out₀ at log count shown next₀ i₀ out next i = Put at (turnLines (
 abbrev μ-loop : tie.MeasureT-loop
 μ-loop out₀ at log count shown next₀ i₀ out next i = shown - i
 
-least-requires : tie.Need-least-requires Inv-loop μ-loop
-least-requires c κs = search needs
+lesser-requires : tie.Need-lesser-requires Inv-loop μ-loop
+lesser-requires c κs = search needs
 
 loop-holds : tie.Need-loop-holds Inv-loop μ-loop
 unfolding turnLines
@@ -63,7 +63,7 @@ returns : tie.Need-returns Inv-loop μ-loop
 returns c =
     let l = c .before .loop in
     let a = c .before .before .before .before .before .args in
-    rw (take-least (a .count) (l .i) (a .log .now) (omega arith)) at (l .inv .0)
+    rw (take-lesser (a .count) (l .i) (a .log .now) (omega arith)) at (l .inv .0)
 
 pub put-turn-lines-spec : {M : Type 1} → statement M
 put-turn-lines-spec =
@@ -71,7 +71,7 @@ put-turn-lines-spec =
     (tie.spec
     Inv-loop
     μ-loop
-    least-requires
+    lesser-requires
     loop-holds
     add-put-logged-line
     mul-put-logged-line

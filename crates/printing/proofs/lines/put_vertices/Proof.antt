@@ -6,7 +6,7 @@ use borrow.Author.Needs.{needs}
 use Rattle.text.specs.Laid.{Put}
 use Rattle.text.specs.Text.{spaced, vertices}
 use Rattle.text.proofs.Laid.{put-length}
-use Rattle.printing.proofs.Each.{none-each, next-each, each-counted, take-least}
+use Rattle.printing.proofs.Each.{none-each, next-each, each-counted, take-lesser}
 use Rattle.printing.proofs.lines.put_vertices.Statement.{statement}
 use Rattle.printing.proofs.lines.put_vertices.Tie as tie
 
@@ -16,8 +16,8 @@ Inv-loop out₀ at route count shown next₀ i₀ out next i = Put at (vertices 
 abbrev μ-loop : tie.MeasureT-loop
 μ-loop out₀ at route count shown next₀ i₀ out next i = shown - i
 
-least-requires : tie.Need-least-requires Inv-loop μ-loop
-least-requires c κs = search needs
+lesser-requires : tie.Need-lesser-requires Inv-loop μ-loop
+lesser-requires c κs = search needs
 
 loop-holds : tie.Need-loop-holds Inv-loop μ-loop
 unfolding vertices
@@ -58,7 +58,7 @@ returns : tie.Need-returns Inv-loop μ-loop
 returns c =
     let l = c .before .loop in
     let a = c .before .before .before .before .before .args in
-    rw (take-least (a .count) (l .i) (a .route .now) (omega arith)) at (l .inv .0)
+    rw (take-lesser (a .count) (l .i) (a .route .now) (omega arith)) at (l .inv .0)
 
 pub put-vertices-spec : {M : Type 1} → statement M
 put-vertices-spec =
@@ -66,7 +66,7 @@ put-vertices-spec =
     (tie.spec
     Inv-loop
     μ-loop
-    least-requires
+    lesser-requires
     loop-holds
     mul-put-vertex
     shared-slice-read-put-vertex

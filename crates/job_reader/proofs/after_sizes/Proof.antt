@@ -1,4 +1,4 @@
--- `read_tables` meets its contract: V and M, then the tables' end.
+-- `after_sizes` meets its contract: V and M, then the tables' end.
 use Prim.Native.Nat.{_+_, _≤_}
 use native.Mathlib.Omega.{arith}
 use native.Mathlib.Nat.{mul-le-mul-left}
@@ -6,8 +6,8 @@ use mathlib.Core.Path.{sym, _∙_}
 use borrow.Author.Tests.{lt-ltb, le-ltb}
 use Rattle.job.specs.Reading.{tableCount, afterTables, afterSizes}
 use borrow.Author.Needs.{needs}
-use Rattle.job_reader.proofs.read_tables.Statement.{statement}
-use Rattle.job_reader.proofs.read_tables.Tie as tie
+use Rattle.job_reader.proofs.after_sizes.Statement.{statement}
+use Rattle.job_reader.proofs.after_sizes.Tie as tie
 
 returns : tie.Need-returns
 unfolding afterSizes afterTables tableCount
@@ -50,8 +50,8 @@ returns-5 : tie.Need-returns-5
 unfolding afterSizes afterTables tableCount
 returns-5 c = simp (le-ltb _ _ (c .before .before .before .before .before .before .before .if1 .left), le-ltb _ _ (c .before .before .before .before .before .before .if2 .left), sym (c .before .before .before .before .past .ensures) ∙ c .before .before .end .given .1, le-ltb _ _ (c .if3 .left))
 
-pub read-tables-spec : {M : Type 1} → statement M
-read-tables-spec =
+pub after-sizes-spec : {M : Type 1} → statement M
+after-sizes-spec =
     tie.close
     (tie.spec
     returns
