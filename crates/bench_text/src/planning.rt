@@ -68,14 +68,8 @@ fn plan_stored(
     let each = vertices as usize;
     let anchor = &tables[..each];
     let sheets = &tables[each..];
-    plan_call(
-        out,
-        &job[plan_at..plan_end],
-        front,
-        anchor,
-        sheets,
-        schedule,
-    )
+    let plan = &job[plan_at..plan_end];
+    plan_call(out, plan, front, anchor, sheets, schedule)
 }
 
 // An accepted job: its factors and tables are stored, and what follows.

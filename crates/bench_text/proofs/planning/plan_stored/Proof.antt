@@ -23,14 +23,14 @@ part-sheets-start c = let a = c .before .before .before .before .before in first
 part-sheets-end : tie.Need-part-sheets-end
 part-sheets-end c = search needs
 
-sub-plan-call : tie.Need-sub-plan-call
-sub-plan-call c = let a = c .before .before .before .before .before .before .before in accepted-ready (a .args .job .now) (a .args .front) (a .args .vertices) (a .pre .accepted) .fits .plan
+sub-plan : tie.Need-sub-plan
+sub-plan c = let a = c .before .before .before .before .before .before in accepted-ready (a .args .job .now) (a .args .front) (a .args .vertices) (a .pre .accepted) .fits .plan
 
-part-plan-call-start : tie.Need-part-plan-call-start
-part-plan-call-start c = let a = c .before .before .before .before .before .before .before in accepted-ready (a .args .job .now) (a .args .front) (a .args .vertices) (a .pre .accepted) .fits .plan
+part-plan-start : tie.Need-part-plan-start
+part-plan-start c = let a = c .before .before .before .before .before .before in accepted-ready (a .args .job .now) (a .args .front) (a .args .vertices) (a .pre .accepted) .fits .plan
 
-part-plan-call-end : tie.Need-part-plan-call-end
-part-plan-call-end c = let a = c .before .before .before .before .before .before .before in accepted-ready (a .args .job .now) (a .args .front) (a .args .vertices) (a .pre .accepted) .fits .end
+part-plan-end : tie.Need-part-plan-end
+part-plan-end c = let a = c .before .before .before .before .before .before in accepted-ready (a .args .job .now) (a .args .front) (a .args .vertices) (a .pre .accepted) .fits .end
 
 plan-call-requires : tie.Need-plan-call-requires
 plan-call-requires c κs = search needs
@@ -53,9 +53,9 @@ plan-stored-spec =
     sub-sheets
     part-sheets-start
     part-sheets-end
-    sub-plan-call
-    part-plan-call-start
-    part-plan-call-end
+    sub-plan
+    part-plan-start
+    part-plan-end
     plan-call-requires
     same-length
     returns)
