@@ -89,6 +89,11 @@ impl<'a> BenchJob<'a> {
     }
 }
 
+/// What is printed of a refusal.
+pub fn refused(number: u32, position: usize) -> String {
+    format!("refused {number} at {position}\n")
+}
+
 /// What the bench program prints for a job's bytes.
 pub fn bench_text(bytes: &[u8]) -> String {
     bench_text_by(bytes, planner::plan)
@@ -96,7 +101,6 @@ pub fn bench_text(bytes: &[u8]) -> String {
 
 /// What the bench program prints for a job's bytes with a planner's answers.
 pub fn bench_text_by(bytes: &[u8], plan: impl FnOnce(&Request, Memory) -> Answer) -> String {
-    let refused = |number: u32, position: usize| format!("refused {number} at {position}\n");
     let Some(job) = BenchJob::read(bytes) else {
         return refused(14, 0);
     };
@@ -126,18 +130,14 @@ pub fn bench_text_by(bytes: &[u8], plan: impl FnOnce(&Request, Memory) -> Answer
         work: &mut work,
     };
     let answer = plan(&request, memory);
-    let turns = match answer {
+    answer_text(&answer, &route, &log)
+}
+
+/// What is printed of an answer: a line for each turn in the log, then how
+/// the call ended.
+pub fn answer_text(answer: &Answer, route: &[u32], log: &[u32]) -> String {
+    let (turns, ending) = match *answer {
         Answer::Refused { number, position } => return refused(number, position),
-        Answer::Route { turns, .. } | Answer::NoRoute { turns } | Answer::Unfinished { turns } => {
-            turns
-        }
-    };
-    let mut text = String::new();
-    for (index, word) in log.iter().take(turns as usize).enumerate() {
-        let (turn, table, vertex) = (index + 1, word / 65_536, word % 65_536);
-        text.push_str(&format!("turn {turn} table {table} place {vertex}\n"));
-    }
-    match answer {
         Answer::Route {
             cost,
             length,
@@ -145,17 +145,22 @@ pub fn bench_text_by(bytes: &[u8], plan: impl FnOnce(&Request, Memory) -> Answer
             turns,
             bound,
         } => {
-            text.push_str("route");
+            let mut ending = String::from("route");
             for vertex in &route[..length as usize] {
-                text.push_str(&format!(" {vertex}"));
+                ending.push_str(&format!(" {vertex}"));
             }
-            text.push_str(&format!(
+            ending.push_str(&format!(
                 "\nend cost {cost} rounds {rounds} turns {turns} bound {bound}\n"
             ));
+            (turns, ending)
         }
-        Answer::NoRoute { turns } => text.push_str(&format!("no route turns {turns}\n")),
-        Answer::Unfinished { turns } => text.push_str(&format!("unfinished turns {turns}\n")),
-        Answer::Refused { .. } => unreachable!("a refusal is printed above"),
+        Answer::NoRoute { turns } => (turns, format!("no route turns {turns}\n")),
+        Answer::Unfinished { turns } => (turns, format!("unfinished turns {turns}\n")),
+    };
+    let mut text = String::new();
+    for (index, word) in log.iter().take(turns as usize).enumerate() {
+        let (turn, table, vertex) = (index + 1, word / 65_536, word % 65_536);
+        text.push_str(&format!("turn {turn} table {table} place {vertex}\n"));
     }
-    text
+    text + &ending
 }

@@ -12,10 +12,10 @@
 //! may go over several lines. So every job's bytes have a text form.
 
 use std::fmt;
+use std::iter;
 
-use crate::bench_text::{MOST_BENCH_EDGES, MOST_BENCH_VERTICES, MOST_JOB_BYTES};
 use crate::generate::push_number;
-use crate::reference::{self, MOST_COST, MOST_EDGES, MOST_IN_THREE_GROUPS, MOST_VERTICES};
+use crate::reference::{self, MOST_IN_THREE_GROUPS};
 
 /// What a line says, and its number in the text.
 #[derive(Clone, Debug, PartialEq, Eq)]
@@ -67,61 +67,31 @@ pub enum TextJob {
     Bytes(Vec<u8>),
 }
 
-/// Why the bench program refuses a job, and the line to look at; 0 if there
-/// is none.
-#[derive(Clone, Debug, PartialEq, Eq)]
-pub struct Remark {
-    pub line: usize,
-    pub refusal: u32,
-    pub words: String,
+/// A count with the name of what is counted.
+pub fn count(number: usize, name: &str) -> String {
+    let plural = if number == 1 { "" } else { "s" };
+    format!("{number} {name}{plural}")
 }
 
-impl fmt::Display for Remark {
-    fn fmt(&self, f: &mut fmt::Formatter) -> fmt::Result {
-        if self.line > 0 {
-            write!(f, "line {}: ", self.line)?;
-        }
-        write!(f, "{} (refusal {})", self.words, self.refusal)
+/// What a table is called: 0 is the anchor table.
+pub fn table_name(table: usize) -> String {
+    match table {
+        0 => "the anchor table".into(),
+        guide => format!("guide {guide}"),
     }
 }
 
-/// A refusal in words.
-pub fn refusal_words(number: u32) -> Option<&'static str> {
-    Some(match number {
-        1 => "a plan number is cut off, longer than three groups or not in its shortest form",
-        2 => "the number of places is not from 1 to 4096",
-        3 => "there are more than 32768 lanes",
-        4 => "a tail or head is not a place",
-        5 => "a cost is above 1000000",
-        6 => "the lanes do not rise by tail, and under one tail by head",
-        7 => "bytes are left over after the last lane",
-        8 => "start or goal is not a place",
-        9 => "there are over 8 guides, or a table has not one number for each place",
-        10 => {
-            "the schedule has over 16 rounds, half a round, a factor outside 100 to 10000 or a \
-             factor that rises"
-        }
-        11 => "lent memory is too short",
-        12 => "the anchor table is not 0 at the goal",
-        13 => {
-            "the anchor table breaks its rule on a lane: its number at the tail is above the \
-             lane's cost and its number at the head together"
-        }
-        14 => {
-            "the job is not one for the bench program: over 32768 bytes, 16 rounds, 8 guides, \
-             256 places or 2048 lanes, or a number is missing, of bad form or left over"
-        }
-        _ => return None,
-    })
-}
-
-/// What a refusal's position counts.
-pub fn position_words(number: u32) -> &'static str {
-    match number {
-        1..=7 => "the position is a byte of the plan, counted from 0",
-        13 => "the position is a lane, counted from 0",
-        _ => "the position is always 0",
-    }
+/// A word between quotes, characters that nobody sees spelt out, its first
+/// 40 if it is long.
+fn quoted(word: &str) -> String {
+    let mut letters = word.chars();
+    let begin: String = letters
+        .by_ref()
+        .take(40)
+        .flat_map(char::escape_debug)
+        .collect();
+    let more = if letters.next().is_some() { ".." } else { "" };
+    format!("'{begin}'{more}")
 }
 
 /// The words of a line that are no comment.
@@ -163,7 +133,10 @@ impl<'a> Words<'a> {
     fn numbers(&self) -> Result<Vec<u32>, String> {
         let number = |word: &&str| match word.parse() {
             Ok(number) => Ok(number),
-            Err(_) => self.wrong(format!("'{word}' is not a number from 0 to 4294967295")),
+            Err(_) => self.wrong(format!(
+                "{} is not a number from 0 to 4294967295",
+                quoted(word)
+            )),
         };
         self.rest.iter().map(number).collect()
     }
@@ -174,10 +147,11 @@ impl<'a> Words<'a> {
         match self.numbers()?.try_into() {
             Ok(numbers) => Ok(self.says(numbers)),
             Err(_) => {
-                let plural = if N == 1 { "" } else { "s" };
+                let numbers = count(N, "number");
+                let stand = if there == 1 { "stands" } else { "stand" };
+                let word = self.word;
                 self.wrong(format!(
-                    "'{}' takes {N} number{plural}, and {there} stand there",
-                    self.word
+                    "'{word}' takes {numbers}, and {there} {stand} there"
                 ))
             }
         }
@@ -193,11 +167,17 @@ impl<'a> Words<'a> {
 
     /// Bytes as hexadecimal pairs.
     fn pairs(&self) -> Result<Vec<u8>, String> {
-        let pair = |word: &&str| match pair(word) {
+        self.rest.iter().map(|word| self.pair(word)).collect()
+    }
+
+    fn pair(&self, word: &str) -> Result<u8, String> {
+        match pair(word) {
             Some(byte) => Ok(byte),
-            None => self.wrong(format!("'{word}' is not a hexadecimal pair from 00 to FF")),
-        };
-        self.rest.iter().map(pair).collect()
+            None => self.wrong(format!(
+                "{} is not a hexadecimal pair from 00 to FF",
+                quoted(word)
+            )),
+        }
     }
 
     /// Takes a line that may stand once.
@@ -225,9 +205,26 @@ fn pair(word: &str) -> Option<u8> {
     digits.then(|| u8::from_str_radix(word, 16).ok()).flatten()
 }
 
-/// Hexadecimal pairs and white space; `None` if there is anything else.
-pub fn pairs(text: &str) -> Option<Vec<u8>> {
-    text.split_whitespace().map(pair).collect()
+/// Whether a text is meant as hexadecimal pairs: its first word begins with
+/// a digit or has two characters, as no line of the text form does.
+pub fn means_pairs(text: &str) -> bool {
+    let first = Words::of_text(text).next();
+    first.is_some_and(|words| {
+        words
+            .word
+            .starts_with(|letter: char| letter.is_ascii_digit())
+            || words.word.chars().count() == 2
+    })
+}
+
+/// Bytes as hexadecimal pairs; `#` begins a comment.
+pub fn pairs(text: &str) -> Result<Vec<u8>, String> {
+    let mut bytes = Vec::new();
+    for words in Words::of_text(text) {
+        bytes.push(words.pair(words.word)?);
+        bytes.extend(words.pairs()?);
+    }
+    Ok(bytes)
 }
 
 /// Bytes as hexadecimal pairs, a fixed count on a line; each line begins with
@@ -282,7 +279,8 @@ impl PlanLines {
         let mut parts = PlanParts::default();
         for words in Words::of_text(text) {
             if !parts.take(&words)? {
-                return words.wrong(format!("'{}' is not 'places' or 'lane'", words.word));
+                let word = quoted(words.word);
+                return words.wrong(format!("{word} is not 'places' or 'lane'"));
             }
         }
         parts.finish()
@@ -354,59 +352,6 @@ impl PlanLines {
         }
         (at == bytes.len()).then_some(PlanLines { places, lanes })
     }
-
-    /// What is wrong with the lines, in the order of the paper's table.
-    fn remarks(&self, remarks: &mut Vec<Remark>) {
-        let places = self.places.says;
-        let mut remark = |line, refusal, words| {
-            remarks.push(Remark {
-                line,
-                refusal,
-                words,
-            })
-        };
-        if places == 0 || places > MOST_VERTICES {
-            let words = format!("a plan has 1 to {MOST_VERTICES} places, not {places}");
-            remark(self.places.number, 2, words);
-        }
-        if self.lanes.len() > MOST_EDGES as usize {
-            let lanes = self.lanes.len();
-            let words = format!("a plan has at most {MOST_EDGES} lanes, not {lanes}");
-            remark(self.lanes[MOST_EDGES as usize].number, 3, words);
-        }
-        let mut before: Option<[u32; 3]> = None;
-        for lane in &self.lanes {
-            let [tail, head, cost] = lane.says;
-            for (end, place) in [("tail", tail), ("head", head)] {
-                if place >= places {
-                    let words = format!("{end} {place} is not a place; {}", place_range(places));
-                    remark(lane.number, 4, words);
-                }
-            }
-            if let Some([_, last, _]) = before.filter(|before| before[0] == tail) {
-                if head <= last {
-                    let words = format!(
-                        "head {head} is not above head {last} of the lane before; heads rise \
-                         under one tail"
-                    );
-                    remark(lane.number, 6, words);
-                }
-            }
-            if cost > MOST_COST {
-                let words = format!("cost {cost} is above {MOST_COST}");
-                remark(lane.number, 5, words);
-            }
-            before = Some(lane.says);
-        }
-    }
-}
-
-fn place_range(places: u32) -> String {
-    match places {
-        0 => "there are no places".into(),
-        1 => "the only place is 0".into(),
-        _ => format!("places are 0 to {}", places - 1),
-    }
 }
 
 impl fmt::Display for PlanLines {
@@ -421,11 +366,24 @@ impl fmt::Display for PlanLines {
 }
 
 impl TextPlan {
-    fn bytes(&self) -> Result<Vec<u8>, String> {
+    /// The plan's bytes; what bytes cannot say is told with its line.
+    pub fn bytes(&self) -> Result<Vec<u8>, String> {
         match self {
             TextPlan::Lines(lines) => lines.bytes(),
             TextPlan::Bytes(bytes) => Ok(bytes.says.clone()),
         }
+    }
+
+    /// The plan's lines, if its bytes have any.
+    pub fn lines(&self) -> Option<PlanLines> {
+        match self {
+            TextPlan::Lines(lines) => Some(lines.clone()),
+            TextPlan::Bytes(bytes) => PlanLines::of_bytes(&bytes.says),
+        }
+    }
+
+    fn places(&self) -> Option<usize> {
+        self.lines().map(|lines| lines.places.says as usize)
     }
 }
 
@@ -452,8 +410,9 @@ impl TextJob {
                 _ if lines.take(&words)? => {}
                 word => {
                     return words.wrong(format!(
-                        "'{word}' begins no line; a line is places, lane, start, goal, \
-                         allowance, round, anchor or guide"
+                        "{} begins no line; a line is places, lane, start, goal, allowance, \
+                         round, anchor or guide",
+                        quoted(word)
                     ))
                 }
             }
@@ -486,16 +445,10 @@ impl TextJob {
             (Some(_), None) => return Err(missing("guides COUNT")),
             (None, Some(_)) => return Err(missing("tables BYTES")),
             (None, None) => {
-                let anchor: Line<Vec<u32>> = anchor.ok_or(missing("anchor NUMBERS"))?;
-                let length = anchor.says.len();
-                if let Some(guide) = guides.iter().find(|guide| guide.says.len() != length) {
-                    return Err(format!(
-                        "line {}: this guide has {} numbers, and the anchor table has {length}",
-                        guide.number,
-                        guide.says.len()
-                    ));
-                }
-                TextTables::Lines { anchor, guides }
+                let anchor = anchor.ok_or(missing("anchor NUMBERS"))?;
+                let tables = TextTables::Lines { anchor, guides };
+                tables.has_one_length(plan.places())?;
+                tables
             }
         };
         let job = JobLines {
@@ -526,19 +479,11 @@ impl TextJob {
         }
     }
 
-    /// Why the bench program refuses the job: the first remark has the
-    /// refusal that it prints, and without remarks it plans the job.
-    pub fn remarks(&self) -> Vec<Remark> {
+    /// The job's lines, if its bytes can be read up to the guide count.
+    pub fn lines(&self) -> Option<JobLines> {
         match self {
-            TextJob::Lines(lines) => lines.remarks(),
-            TextJob::Bytes(bytes) => match JobLines::of_bytes(bytes) {
-                Some(lines) => lines.remarks(),
-                None => vec![Remark {
-                    line: 0,
-                    refusal: 14,
-                    words: "up to the guide count a number is missing or of bad form".into(),
-                }],
-            },
+            TextJob::Lines(lines) => Some(lines.clone()),
+            TextJob::Bytes(bytes) => JobLines::of_bytes(bytes),
         }
     }
 }
@@ -551,6 +496,62 @@ fn job_number(rest: &mut &[u8]) -> Option<u32> {
 }
 
 impl TextTables {
+    /// Anchor table and guide sheets as lines, the anchor first, if they have
+    /// lines.
+    pub fn lines(&self) -> Option<Vec<Line<Vec<u32>>>> {
+        match self {
+            TextTables::Lines { anchor, guides } => {
+                Some(iter::once(anchor).chain(guides).cloned().collect())
+            }
+            TextTables::Bytes { guides, bytes } => TextTables::of_bytes(guides, bytes)?.lines(),
+        }
+    }
+
+    /// The first line.
+    pub fn line(&self) -> usize {
+        match self {
+            TextTables::Lines { anchor, .. } => anchor.number,
+            TextTables::Bytes { bytes, .. } => bytes.number,
+        }
+    }
+
+    /// The count of guides and the line that shows it; with lines the first
+    /// guide over 8.
+    pub fn guide_count(&self) -> Line<usize> {
+        let (number, says) = match self {
+            TextTables::Lines { guides, .. } => {
+                (guides.get(8).map_or(0, |guide| guide.number), guides.len())
+            }
+            TextTables::Bytes { guides, .. } => (guides.number, guides.says as usize),
+        };
+        Line { number, says }
+    }
+
+    /// Tables of several lengths could not be told apart in bytes: the first
+    /// that is not as long as the plan has places is told, or where those
+    /// are not known the first that is not as long as the anchor table.
+    fn has_one_length(&self, places: Option<usize>) -> Result<(), String> {
+        let tables = self.lines().unwrap_or_default();
+        let lengths: Vec<usize> = tables.iter().map(|table| table.says.len()).collect();
+        let Some(&anchor) = lengths.first() else {
+            return Ok(());
+        };
+        if lengths.iter().all(|&length| length == anchor) {
+            return Ok(());
+        }
+        let wanted = places.unwrap_or(anchor);
+        let Some(table) = lengths.iter().position(|&length| length != wanted) else {
+            return Ok(());
+        };
+        let line = tables[table].number;
+        let (name, numbers) = (table_name(table), count(lengths[table], "number"));
+        let other = match places {
+            Some(places) => format!("the plan has {}", count(places, "place")),
+            None => format!("the anchor table in line {} has {anchor}", tables[0].number),
+        };
+        Err(format!("line {line}: {name} has {numbers}, and {other}"))
+    }
+
     /// The lines of bytes whose numbers make tables of one length.
     fn of_bytes(guides: &Line<u32>, bytes: &Line<Vec<u8>>) -> Option<TextTables> {
         let mut rest = &bytes.says[..];
@@ -590,10 +591,7 @@ impl JobLines {
         match &self.tables {
             TextTables::Lines { anchor, guides } => {
                 push_number(&mut bytes, guides.len() as u32);
-                for &number in std::iter::once(anchor)
-                    .chain(guides)
-                    .flat_map(|line| &line.says)
-                {
+                for &number in iter::once(anchor).chain(guides).flat_map(|line| &line.says) {
                     push_number(&mut bytes, number);
                 }
             }
@@ -645,152 +643,6 @@ impl JobLines {
             rounds,
             tables,
         })
-    }
-
-    /// What is wrong with the lines, in the order in which the bench program
-    /// looks at them.
-    fn remarks(&self) -> Vec<Remark> {
-        let mut remarks = Vec::new();
-        let mut remark = |line, refusal, words| {
-            remarks.push(Remark {
-                line,
-                refusal,
-                words,
-            })
-        };
-        let length = self.bytes().len();
-        if length > MOST_JOB_BYTES {
-            let words = format!("the job has {length} bytes, over {MOST_JOB_BYTES}");
-            remark(0, 14, words);
-        }
-        if let Some(round) = self.rounds.get(16) {
-            let words = format!("there are {} rounds, over 16", self.rounds.len());
-            remark(round.number, 14, words);
-        }
-        let (count, line) = match &self.tables {
-            TextTables::Lines { guides, .. } => {
-                (guides.len(), guides.get(8).map_or(0, |guide| guide.number))
-            }
-            TextTables::Bytes { guides, .. } => (guides.says as usize, guides.number),
-        };
-        if count > 8 {
-            remark(line, 14, format!("there are {count} guides, over 8"));
-        }
-        let plan = match &self.plan {
-            TextPlan::Lines(lines) => {
-                lines.remarks(&mut remarks);
-                lines
-            }
-            TextPlan::Bytes(bytes) => {
-                if let Err(refusal) = reference::check_plan(&bytes.says) {
-                    let words = refusal_words(refusal.number).unwrap_or("");
-                    let at = refusal.position;
-                    remarks.push(Remark {
-                        line: bytes.number,
-                        refusal: refusal.number,
-                        words: format!("at byte {at} of the plan, counted from 0: {words}"),
-                    });
-                    return remarks;
-                }
-                &PlanLines::of_bytes(&bytes.says).expect("a valid plan has lines")
-            }
-        };
-        self.call_remarks(plan, &mut remarks);
-        remarks
-    }
-
-    /// What is wrong with the lines beside the plan.
-    fn call_remarks(&self, plan: &PlanLines, remarks: &mut Vec<Remark>) {
-        let mut remark = |line, refusal, words| {
-            remarks.push(Remark {
-                line,
-                refusal,
-                words,
-            })
-        };
-        let places = plan.places.says;
-        if places as usize > MOST_BENCH_VERTICES {
-            let words =
-                format!("the bench program takes {MOST_BENCH_VERTICES} places, not {places}");
-            remark(plan.places.number, 14, words);
-        }
-        if let Some(lane) = plan.lanes.get(MOST_BENCH_EDGES) {
-            let lanes = plan.lanes.len();
-            let words = format!("the bench program takes {MOST_BENCH_EDGES} lanes, not {lanes}");
-            remark(lane.number, 14, words);
-        }
-        let whole = match &self.tables {
-            TextTables::Bytes { guides, bytes } => TextTables::of_bytes(guides, bytes),
-            lines => Some(lines.clone()),
-        };
-        let tables = match &whole {
-            Some(TextTables::Lines { anchor, guides }) => {
-                std::iter::once(anchor).chain(guides).collect()
-            }
-            _ => Vec::new(),
-        };
-        if let (TextTables::Bytes { bytes, .. }, None) = (&self.tables, &whole) {
-            let words = "the numbers are not those of whole tables".into();
-            remark(bytes.number, 14, words);
-        }
-        for (index, table) in tables.iter().enumerate() {
-            let numbers = table.says.len();
-            if numbers != places as usize {
-                let name = match index {
-                    0 => "the anchor table".into(),
-                    guide => format!("guide {guide}"),
-                };
-                let words = format!("{name} has {numbers} numbers, and there are {places} places");
-                remark(table.number, 14, words);
-            }
-        }
-        for (name, line) in [("start", &self.start), ("goal", &self.goal)] {
-            if line.says >= places {
-                let place = line.says;
-                let words = format!("{name} {place} is not a place; {}", place_range(places));
-                remark(line.number, 8, words);
-            }
-        }
-        let mut before: Option<[u32; 2]> = None;
-        for round in &self.rounds {
-            for (index, &factor) in round.says.iter().enumerate() {
-                let name = ["W1", "W2"][index];
-                if !(100..=10_000).contains(&factor) {
-                    let words = format!("{name} {factor} is not from 100 to 10000");
-                    remark(round.number, 10, words);
-                }
-                if let Some(last) = before.map(|before| before[index]) {
-                    if factor > last {
-                        let words = format!("{name} rises from {last} to {factor}");
-                        remark(round.number, 10, words);
-                    }
-                }
-            }
-            before = Some(round.says);
-        }
-        let Some(anchor) = tables.first() else {
-            return;
-        };
-        let number_at = |place: u32| anchor.says.get(place as usize).copied();
-        if let Some(number) = number_at(self.goal.says).filter(|&number| number > 0) {
-            let goal = self.goal.says;
-            let words = format!("the anchor table has {number} at the goal {goal}, not 0");
-            remark(anchor.number, 12, words);
-        }
-        for (index, lane) in plan.lanes.iter().enumerate() {
-            let [tail, head, cost] = lane.says;
-            let (Some(at_tail), Some(at_head)) = (number_at(tail), number_at(head)) else {
-                continue;
-            };
-            let most = u64::from(cost) + u64::from(at_head);
-            if u64::from(at_tail) > most {
-                let words = format!(
-                    "on lane {index}, counted from 0, the anchor table has {at_tail} at tail \
-                     {tail}, above cost {cost} + {at_head} at head {head}"
-                );
-                remark(lane.number, 13, words);
-            }
-        }
     }
 }
 

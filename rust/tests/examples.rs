@@ -6,6 +6,7 @@ use std::path::PathBuf;
 use std::process::Command;
 
 use secondcoop_tests::planners::{Library, Planner, SecondPlanner};
+use secondcoop_tests::refusals::{remarks, Taker};
 use secondcoop_tests::text::{PlanLines, TextJob};
 
 fn examples() -> PathBuf {
@@ -86,7 +87,7 @@ fn the_expected_text_is_printed() {
             let number: u32 = number.parse().expect("a number");
             assert!(expected.starts_with(&format!("refused {number} at ")));
             let job = TextJob::parse(&read_text(&name, "txt")).expect("a text form");
-            assert_eq!(job.remarks()[0].refusal, number);
+            assert_eq!(remarks(&job, Taker::Bench)[0].refusal, number);
         }
     }
 }
@@ -108,10 +109,13 @@ fn the_tool_turns_each_form_into_the_others() {
         for form in ["txt", "job"] {
             let path = examples().join(format!("{name}.{form}"));
             assert_eq!(job("bytes", &path), (true, bytes.clone()), "{name}.{form}");
-            assert_eq!(job("print", &path), (true, read(&name, "out")));
+            for command in ["run", "print"] {
+                let (_, printed) = job(command, &path);
+                assert_eq!(printed, read(&name, "out"));
+            }
             let (good, words) = job("check", &path);
             assert_eq!(good, !name.starts_with("refusal"));
-            assert_eq!(good, words.is_empty());
+            assert_eq!(good, words.starts_with(b"nothing is wrong: "));
             for form in ["hex", "text"] {
                 let (good, contents) = job(form, &path);
                 assert!(good);

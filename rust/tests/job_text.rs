@@ -5,7 +5,8 @@ use secondcoop_tests::bench_text;
 use secondcoop_tests::jobs;
 use secondcoop_tests::planners::{kind_of_text, KINDS};
 use secondcoop_tests::random::Random;
-use secondcoop_tests::text::{pairs, pairs_text, PlanLines, TextJob};
+use secondcoop_tests::refusals::{remarks, Taker};
+use secondcoop_tests::text::{means_pairs, pairs, pairs_text, PlanLines, TextJob};
 
 /// Job A of the paper.
 const JOB_A: &str = "\
@@ -30,7 +31,7 @@ const JOB_A_PAIRS: &str = "0E 04 04 00 01 01 00 02 04 01 02 02 01 03 03 00 03 64
 fn job_a() {
     let job = TextJob::parse(JOB_A).unwrap();
     assert_eq!(job.bytes(), pairs(JOB_A_PAIRS).unwrap());
-    assert_eq!(job.remarks(), []);
+    assert_eq!(remarks(&job, Taker::Bench), []);
     let text = TextJob::of_bytes(&job.bytes()).to_string();
     assert_eq!(format!("# Job A\n{text}"), JOB_A);
     assert_eq!(
@@ -48,7 +49,7 @@ fn round_trip(bytes: &[u8]) -> usize {
     assert_eq!(job.bytes(), bytes, "{text}");
     assert_eq!(job.to_string(), text);
     let kind = kind_of_text(&bench_text::bench_text(bytes));
-    let remarks = job.remarks();
+    let remarks = remarks(&job, Taker::Bench);
     match remarks.first() {
         Some(first) => assert_eq!(first.refusal as usize, kind, "{remarks:?}: {text}"),
         None => assert!(!(1..=14).contains(&kind), "refusal {kind}: {text}"),
@@ -79,17 +80,25 @@ fn all_bytes_have_a_text_form() {
     // Text made from a job says the same as the job.
     jobs::valid_jobs(93, 500, &mut |_, job| {
         let text = TextJob::of_bytes(&job.bench_bytes());
-        assert!(matches!(text, TextJob::Lines(_)) && text.remarks().is_empty());
+        assert!(matches!(text, TextJob::Lines(_)) && remarks(&text, Taker::Bench).is_empty());
     });
 }
 
 #[test]
 fn pairs_are_read_and_printed() {
     let bytes: Vec<u8> = (0..=255).collect();
-    assert_eq!(pairs(&pairs_text("", &bytes)), Some(bytes));
-    assert_eq!(pairs("0e 0E\n\tfF"), Some(vec![14, 14, 255]));
+    assert_eq!(pairs(&pairs_text("", &bytes)), Ok(bytes));
+    assert_eq!(pairs("0e 0E # two\n\tfF"), Ok(vec![14, 14, 255]));
     for wrong in ["0", "000", "0g", "+1", "0x", "00,"] {
-        assert_eq!(pairs(wrong), None);
+        let words = format!("line 2: '{wrong}' is not a hexadecimal pair from 00 to FF");
+        assert_eq!(pairs(&format!("00\n01 {wrong}")), Err(words.clone()));
+        assert_eq!(pairs(&format!("00\n{wrong} 01")), Err(words));
+    }
+    for text in ["0G", "G0 01", "# a comment\n0E 04", "0E04", "7"] {
+        assert!(means_pairs(text), "{text}");
+    }
+    for text in ["", "# 0E", "places 4", "plan 04 00", "bytes"] {
+        assert!(!means_pairs(text), "{text}");
     }
 }
 
@@ -163,13 +172,28 @@ fn a_line_that_bytes_cannot_say_is_told() {
         (
             10,
             "round 200",
-            "line 10: 'round' takes 2 numbers, and 1 stand there",
+            "line 10: 'round' takes 2 numbers, and 1 stands there",
         ),
         (12, "", "there is no line 'anchor NUMBERS'"),
         (
             13,
             "guide 0 9 0",
-            "line 13: this guide has 3 numbers, and the anchor table has 4",
+            "line 13: guide 1 has 3 numbers, and the plan has 4 places",
+        ),
+        (
+            12,
+            "anchor 6 5 3",
+            "line 12: the anchor table has 3 numbers, and the plan has 4 places",
+        ),
+        (
+            12,
+            "anchor 0",
+            "line 12: the anchor table has 1 number, and the plan has 4 places",
+        ),
+        (
+            13,
+            "guide 0 9 0 0\nguide 0 9 0 0 0",
+            "line 14: guide 2 has 5 numbers, and the plan has 4 places",
         ),
         (
             13,
@@ -189,6 +213,15 @@ fn a_line_that_bytes_cannot_say_is_told() {
         "line 1: '0' is not a hexadecimal pair from 00 to FF"
     );
     assert_eq!(wrong(""), "there is no line 'places V'");
+    // Where the plan's places are not known, tables are held to the anchor's.
+    let unknown = "plan 04\nstart 0\ngoal 0\nallowance 1\nanchor 0\nguide 0 0";
+    assert_eq!(
+        wrong(unknown),
+        "line 6: guide 1 has 2 numbers, and the anchor table in line 5 has 1"
+    );
+    // What nobody sees is spelt out, and a long word is cut.
+    assert!(wrong("\u{feff}places 4").starts_with("line 1: '\\u{feff}places' begins no line"));
+    assert!(wrong(&"x".repeat(99)).starts_with(&format!("line 1: '{}'.. begins", "x".repeat(40))));
     assert_eq!(
         PlanLines::parse("places 1\nstart 0").unwrap_err(),
         "line 2: 'start' is not 'places' or 'lane'"
@@ -199,9 +232,10 @@ fn a_line_that_bytes_cannot_say_is_told() {
 fn a_line_that_the_bench_program_refuses_is_told() {
     let remarks = |line: usize, other: &str| {
         let job = TextJob::parse(&with(line, other)).unwrap();
-        let printed = bench_text::bench_text(&job.bytes());
-        let remarks: Vec<String> = job.remarks().iter().map(|r| r.to_string()).collect();
-        assert!(printed.starts_with("refused"));
+        let remarks = remarks(&job, Taker::Bench);
+        let refusal = remarks[0].refusal as usize;
+        assert_eq!(kind_of_text(&bench_text::bench_text(&job.bytes())), refusal);
+        let remarks: Vec<String> = remarks.iter().map(|remark| remark.to_string()).collect();
         remarks.join("; ")
     };
     for (line, other, words) in [
@@ -229,8 +263,7 @@ fn a_line_that_the_bench_program_refuses_is_told() {
         (
             10,
             "round 99 200",
-            "line 10: W1 99 is not from 100 to 10000 (refusal 10); \
-                              line 11: W1 rises from 99 to 100 (refusal 10)",
+            "line 10: W1 99 is not from 100 to 10000 (refusal 10)",
         ),
         (
             11,
@@ -251,9 +284,18 @@ fn a_line_that_the_bench_program_refuses_is_told() {
         (
             2,
             "places 5",
-            "line 12: the anchor table has 4 numbers, and there are 5 places \
-                         (refusal 14); line 13: guide 1 has 4 numbers, and there are 5 places \
-                         (refusal 14)",
+            "line 12: the anchor table has 4 numbers, and the plan has 5 places (refusal 14); \
+             line 13: guide 1 has 4 numbers, and the plan has 5 places (refusal 14)",
+        ),
+        (
+            2,
+            "places 0",
+            "line 2: a plan has 1 to 4096 places, not 0 (refusal 2)",
+        ),
+        (
+            2,
+            "places 4097",
+            "line 2: a plan has 1 to 4096 places, not 4097 (refusal 2)",
         ),
     ] {
         assert_eq!(remarks(line, other), words);

@@ -5,23 +5,55 @@
 //! each lane; `#` begins a comment. Bytes are read and printed as hexadecimal
 //! pairs.
 
+use std::io::Write as _;
 use std::process::ExitCode;
 
 use secondcoop_tests::ffi;
-use secondcoop_tests::text::{pairs, pairs_text, refusal_words, Line, PlanLines};
+use secondcoop_tests::input::{name_of, Input};
+use secondcoop_tests::refusals::refusal_words;
+use secondcoop_tests::text::{pairs_text, Line, PlanLines};
 
-/// A refusal with its position in words.
-fn refused(number: u64, position: u64, place: &str) -> String {
-    let words = refusal_words(number as u32).unwrap_or("a refusal that the paper does not name");
-    match place {
-        "" => format!("refused {number} at {position}: {words}"),
-        _ => {
-            format!("refused {number} at {position}, {place} number {position} from 0: {words}")
-        }
+const USAGE: &str = "\
+usage: plan FILE
+Turns a plan from text into bytes, or from bytes into text, with the proved library. The text has
+a line 'places V', then a line 'lane TAIL HEAD COST' for each lane by rising tails and heads; bytes
+are hexadecimal pairs. - or no FILE is standard input.
+Exit status: 0 done; 3 refused, with the reason in plain words; 4 nothing was done: wrong use, or
+a file or a line that cannot be read.
+";
+
+/// Exit statuses beside 0.
+const REFUSED: u8 = 3;
+const NOTHING_DONE: u8 = 4;
+
+/// Why nothing is written.
+struct Wrong {
+    status: u8,
+    words: String,
+}
+
+/// What cannot be read.
+fn unread(words: String) -> Wrong {
+    Wrong {
+        status: NOTHING_DONE,
+        words,
     }
 }
 
-fn to_bytes(plan: &PlanLines) -> Result<String, String> {
+/// A refusal with its position in words.
+fn refused(number: u64, position: u64, place: &str) -> Wrong {
+    let words = refusal_words(number as u32).unwrap_or("a refusal that the paper does not name");
+    let at = match place {
+        "" => String::new(),
+        _ => format!(", {place} number {position} from 0"),
+    };
+    Wrong {
+        status: REFUSED,
+        words: format!("refused {number} at {position}{at}: {words}"),
+    }
+}
+
+fn to_bytes(plan: &PlanLines) -> Result<String, Wrong> {
     let [tails, heads, costs] = plan.lists();
     let mut out = vec![0; 6 + 9 * tails.len()];
     let [number, position, count, _] =
@@ -33,7 +65,7 @@ fn to_bytes(plan: &PlanLines) -> Result<String, String> {
     }
 }
 
-fn to_text(bytes: &[u8]) -> Result<String, String> {
+fn to_text(bytes: &[u8]) -> Result<String, Wrong> {
     let [number, position, _, lanes] = ffi::check_plan(bytes);
     if number != 0 {
         return Err(refused(number, position, "byte"));
@@ -60,28 +92,40 @@ fn to_text(bytes: &[u8]) -> Result<String, String> {
     Ok(plan.to_string())
 }
 
-fn convert(path: &str) -> Result<String, String> {
-    let text = std::fs::read_to_string(path).map_err(|error| format!("{path}: {error}"))?;
-    match pairs(&text) {
-        Some(bytes) => to_text(&bytes),
-        None => to_bytes(&PlanLines::parse(&text)?),
+fn convert(path: Option<&str>) -> Result<String, Wrong> {
+    let name = name_of(path);
+    match Input::read(path).map_err(unread)? {
+        Input::Pairs(bytes) => to_text(&bytes),
+        Input::Lines(text) => match PlanLines::parse(&text) {
+            Ok(plan) => to_bytes(&plan),
+            Err(wrong) => Err(unread(format!("{name}: {wrong}"))),
+        },
+        Input::Bytes(_) => Err(unread(format!(
+            "{name}: this is no text; a plan's bytes are read as hexadecimal pairs"
+        ))),
+    }
+}
+
+fn converted(arguments: &[&str]) -> Result<String, Wrong> {
+    match *arguments {
+        ["help" | "--help" | "-h"] => Ok(USAGE.into()),
+        [] => convert(None),
+        [path] => convert(Some(path)),
+        _ => Err(unread(USAGE.trim_end().into())),
     }
 }
 
 fn main() -> ExitCode {
-    let mut arguments = std::env::args().skip(1);
-    let (Some(path), None) = (arguments.next(), arguments.next()) else {
-        eprintln!("usage: plan FILE, a plan as text or its bytes as hexadecimal pairs");
-        return ExitCode::from(2);
-    };
-    match convert(&path) {
-        Ok(converted) => {
-            println!("{}", converted.trim_end());
-            ExitCode::SUCCESS
-        }
+    let arguments: Vec<String> = std::env::args().skip(1).collect();
+    let arguments: Vec<&str> = arguments.iter().map(String::as_str).collect();
+    match converted(&arguments) {
+        Ok(output) => match std::io::stdout().write_all(output.as_bytes()) {
+            Ok(()) => ExitCode::SUCCESS,
+            Err(_) => ExitCode::from(NOTHING_DONE),
+        },
         Err(wrong) => {
-            eprintln!("{wrong}");
-            ExitCode::FAILURE
+            eprintln!("{}", wrong.words);
+            ExitCode::from(wrong.status)
         }
     }
 }

@@ -1,0 +1,364 @@
+//! Refusals in plain words: what each number means, and what is wrong with a
+//! job's lines.
+
+use std::fmt;
+
+use crate::bench_text::{MOST_BENCH_EDGES, MOST_BENCH_VERTICES, MOST_JOB_BYTES};
+use crate::reference::{self, MOST_COST, MOST_EDGES, MOST_VERTICES};
+use crate::text::{count, table_name, JobLines, Line, PlanLines, TextJob, TextPlan};
+
+/// A refusal in words.
+pub fn refusal_words(number: u32) -> Option<&'static str> {
+    Some(match number {
+        1 => "a plan number is cut off, longer than three groups or not in its shortest form",
+        2 => "the number of places is not from 1 to 4096",
+        3 => {
+            "there are more than 32768 lanes, or the lists of a plan to be written have unequal \
+             lengths"
+        }
+        4 => "a tail or head is not a place",
+        5 => "a cost is above 1000000",
+        6 => "the lanes do not rise by tail, and under one tail by head",
+        7 => "bytes are left over after the last lane",
+        8 => "start or goal is not a place",
+        9 => "there are over 8 guides, or a table has not one number for each place",
+        10 => {
+            "the schedule has over 16 rounds, half a round, a factor outside 100 to 10000 or a \
+             factor that rises"
+        }
+        11 => "lent memory is too short",
+        12 => "the anchor table is not 0 at the goal",
+        13 => {
+            "the anchor table breaks its rule on a lane: its number at the tail is above the \
+             lane's cost and its number at the head together"
+        }
+        14 => {
+            "the job is not one for the bench program: over 32768 bytes, 16 rounds, 8 guides, \
+             256 places or 2048 lanes, or a number is missing, of bad form or left over"
+        }
+        _ => return None,
+    })
+}
+
+/// What a refusal's position counts.
+pub fn position_words(number: u32) -> &'static str {
+    match number {
+        1 => {
+            "the position is a byte, counted from 0; where a number was to be written, it is \
+             always 0"
+        }
+        2 | 3 => {
+            "the position is a byte of the plan, counted from 0; where a plan was to be written, \
+             it is always 0"
+        }
+        4..=6 => {
+            "the position is a byte of the plan, counted from 0; where a plan was to be written, \
+             it is a lane, counted from 0"
+        }
+        7 => "the position is a byte of the plan, counted from 0",
+        13 => "the position is a lane, counted from 0",
+        _ => "the position is always 0",
+    }
+}
+
+/// Who takes a job: the bench program, which has limits of its own, or the
+/// planner call.
+#[derive(Clone, Copy, Debug, PartialEq, Eq)]
+pub enum Taker {
+    Bench,
+    Call,
+}
+
+impl Taker {
+    /// Who plans a job: the bench program, or the planner call where it has
+    /// more bytes, places or lanes than the bench program takes.
+    pub fn of(job: &TextJob) -> Taker {
+        let plan = job.lines().and_then(|lines| lines.plan.lines());
+        let large = plan.is_some_and(|plan| {
+            plan.places.says as usize > MOST_BENCH_VERTICES || plan.lanes.len() > MOST_BENCH_EDGES
+        });
+        match large || job.bytes().len() > MOST_JOB_BYTES {
+            true => Taker::Call,
+            false => Taker::Bench,
+        }
+    }
+}
+
+/// What is wrong with a job, and the line to look at; 0 if there is none.
+#[derive(Clone, Debug, PartialEq, Eq)]
+pub struct Remark {
+    pub line: usize,
+    pub refusal: u32,
+    pub words: String,
+}
+
+impl fmt::Display for Remark {
+    fn fmt(&self, f: &mut fmt::Formatter) -> fmt::Result {
+        if self.line > 0 {
+            write!(f, "line {}: ", self.line)?;
+        }
+        write!(f, "{} (refusal {})", self.words, self.refusal)
+    }
+}
+
+/// Why a job is refused: the first remark has the refusal that the taker
+/// gives, and without remarks the job is planned. What follows from another
+/// fault has no remark of its own.
+pub fn remarks(job: &TextJob, taker: Taker) -> Vec<Remark> {
+    let mut remarks = Remarks(Vec::new());
+    match job.lines() {
+        Some(lines) => remarks.job(&lines, job.bytes().len(), taker),
+        None => {
+            let words = match job.bytes().len() {
+                length if length > MOST_JOB_BYTES && taker == Taker::Bench => too_long(length),
+                _ => "up to the guide count a number is missing or of bad form".into(),
+            };
+            remarks.add(0, 14, words);
+        }
+    }
+    remarks.0
+}
+
+fn too_long(length: usize) -> String {
+    format!("the job has {length} bytes, over the {MOST_JOB_BYTES} of the bench program")
+}
+
+/// Whether a plan has a count of places by which its lines can be judged.
+fn has_places(plan: &PlanLines) -> bool {
+    (1..=MOST_VERTICES).contains(&plan.places.says)
+}
+
+fn place_range(places: u32) -> String {
+    match places {
+        1 => "the only place is 0".into(),
+        _ => format!("places are 0 to {}", places - 1),
+    }
+}
+
+/// The remarks on a job, as they are found.
+struct Remarks(Vec<Remark>);
+
+impl Remarks {
+    fn add(&mut self, line: usize, refusal: u32, words: String) {
+        self.0.push(Remark {
+            line,
+            refusal,
+            words,
+        });
+    }
+
+    /// All lines, in the order in which the taker looks at them.
+    fn job(&mut self, job: &JobLines, length: usize, taker: Taker) {
+        match taker {
+            Taker::Bench => {
+                if length > MOST_JOB_BYTES {
+                    self.add(0, 14, too_long(length));
+                }
+                self.most_rounds(job, 14);
+                self.most_guides(job, 14);
+            }
+            // Without tables there is no call.
+            Taker::Call if job.tables.lines().is_none() => return self.no_tables(job),
+            Taker::Call => {}
+        }
+        let plan = match (&job.plan, job.plan.lines()) {
+            (TextPlan::Lines(lines), _) => {
+                self.plan(lines);
+                lines.clone()
+            }
+            (TextPlan::Bytes(bytes), lines) => {
+                if let Err(refusal) = reference::check_plan(&bytes.says) {
+                    let words = refusal_words(refusal.number).unwrap_or("");
+                    let at = refusal.position;
+                    let words = format!("at byte {at} of the plan, counted from 0: {words}");
+                    self.add(bytes.number, refusal.number, words);
+                    return;
+                }
+                lines.expect("a valid plan has lines")
+            }
+        };
+        match taker {
+            Taker::Bench => {
+                self.bench_sizes(&plan, length);
+                self.tables(job, &plan, 14);
+                self.ends(job, &plan);
+            }
+            Taker::Call => {
+                self.ends(job, &plan);
+                self.most_guides(job, 9);
+                self.tables(job, &plan, 9);
+                self.most_rounds(job, 10);
+            }
+        }
+        self.factors(job);
+        self.anchor(job, &plan);
+    }
+
+    fn most_rounds(&mut self, job: &JobLines, refusal: u32) {
+        if let Some(round) = job.rounds.get(16) {
+            let words = format!("there are {} rounds, over 16", job.rounds.len());
+            self.add(round.number, refusal, words);
+        }
+    }
+
+    fn most_guides(&mut self, job: &JobLines, refusal: u32) {
+        let Line { number, says } = job.tables.guide_count();
+        if says > 8 {
+            self.add(number, refusal, format!("there are {says} guides, over 8"));
+        }
+    }
+
+    /// Places and lanes, row by row of the paper's table.
+    fn plan(&mut self, plan: &PlanLines) {
+        let places = plan.places.says;
+        if !has_places(plan) {
+            let words = format!("a plan has 1 to {MOST_VERTICES} places, not {places}");
+            self.add(plan.places.number, 2, words);
+        }
+        if plan.lanes.len() > MOST_EDGES as usize {
+            let lanes = plan.lanes.len();
+            let words = format!("a plan has at most {MOST_EDGES} lanes, not {lanes}");
+            self.add(plan.lanes[MOST_EDGES as usize].number, 3, words);
+        }
+        let mut before: Option<[u32; 3]> = None;
+        for lane in &plan.lanes {
+            let [tail, head, cost] = lane.says;
+            for (end, place) in [("tail", tail), ("head", head)] {
+                if has_places(plan) && place >= places {
+                    let words = format!("{end} {place} is not a place; {}", place_range(places));
+                    self.add(lane.number, 4, words);
+                }
+            }
+            if let Some([_, last, _]) = before.filter(|before| before[0] == tail) {
+                if head <= last {
+                    let words = format!(
+                        "head {head} is not above head {last} of the lane before; heads rise \
+                         under one tail"
+                    );
+                    self.add(lane.number, 6, words);
+                }
+            }
+            if cost > MOST_COST {
+                let words = format!("cost {cost} is above {MOST_COST}");
+                self.add(lane.number, 5, words);
+            }
+            before = Some(lane.says);
+        }
+    }
+
+    /// What the bench program takes, where the plan is one and the job's
+    /// length has not been told.
+    fn bench_sizes(&mut self, plan: &PlanLines, length: usize) {
+        if length > MOST_JOB_BYTES {
+            return;
+        }
+        let places = plan.places.says;
+        if has_places(plan) && places as usize > MOST_BENCH_VERTICES {
+            let words =
+                format!("the bench program takes {MOST_BENCH_VERTICES} places, not {places}");
+            self.add(plan.places.number, 14, words);
+        }
+        let lanes = plan.lanes.len();
+        if let Some(lane) = plan.lanes.get(MOST_BENCH_EDGES) {
+            if lanes <= MOST_EDGES as usize {
+                let words =
+                    format!("the bench program takes {MOST_BENCH_EDGES} lanes, not {lanes}");
+                self.add(lane.number, 14, words);
+            }
+        }
+    }
+
+    fn no_tables(&mut self, job: &JobLines) {
+        let words = "the numbers are not those of whole tables".into();
+        self.add(job.tables.line(), 14, words);
+    }
+
+    /// The tables' lengths.
+    fn tables(&mut self, job: &JobLines, plan: &PlanLines, refusal: u32) {
+        let Some(tables) = job.tables.lines() else {
+            if job.tables.guide_count().says <= 8 {
+                self.no_tables(job);
+            }
+            return;
+        };
+        if !has_places(plan) {
+            return;
+        }
+        for (index, table) in tables.iter().enumerate() {
+            let (numbers, places) = (table.says.len(), plan.places.says as usize);
+            if numbers != places {
+                let words = format!(
+                    "{} has {}, and the plan has {}",
+                    table_name(index),
+                    count(numbers, "number"),
+                    count(places, "place")
+                );
+                self.add(table.number, refusal, words);
+            }
+        }
+    }
+
+    fn ends(&mut self, job: &JobLines, plan: &PlanLines) {
+        let places = plan.places.says;
+        for (name, line) in [("start", &job.start), ("goal", &job.goal)] {
+            if has_places(plan) && line.says >= places {
+                let place = line.says;
+                let words = format!("{name} {place} is not a place; {}", place_range(places));
+                self.add(line.number, 8, words);
+            }
+        }
+    }
+
+    fn factors(&mut self, job: &JobLines) {
+        let fits = |factor: u32| (100..=10_000).contains(&factor);
+        let mut before: Option<[u32; 2]> = None;
+        for round in &job.rounds {
+            for (index, &factor) in round.says.iter().enumerate() {
+                let name = ["W1", "W2"][index];
+                if !fits(factor) {
+                    let words = format!("{name} {factor} is not from 100 to 10000");
+                    self.add(round.number, 10, words);
+                    continue;
+                }
+                let last = before
+                    .map(|before| before[index])
+                    .filter(|&last| fits(last));
+                if let Some(last) = last.filter(|&last| factor > last) {
+                    let words = format!("{name} rises from {last} to {factor}");
+                    self.add(round.number, 10, words);
+                }
+            }
+            before = Some(round.says);
+        }
+    }
+
+    /// The anchor table at the goal and on the lanes, where it has a number
+    /// for each place.
+    fn anchor(&mut self, job: &JobLines, plan: &PlanLines) {
+        let tables = job.tables.lines().unwrap_or_default();
+        let fits = |table: &&Line<Vec<u32>>| table.says.len() == plan.places.says as usize;
+        let Some(anchor) = tables.first().filter(fits) else {
+            return;
+        };
+        let number_at = |place: u32| anchor.says.get(place as usize).copied();
+        if let Some(number) = number_at(job.goal.says).filter(|&number| number > 0) {
+            let goal = job.goal.says;
+            let words = format!("the anchor table has {number} at the goal {goal}, not 0");
+            self.add(anchor.number, 12, words);
+        }
+        for (index, lane) in plan.lanes.iter().enumerate() {
+            let [tail, head, cost] = lane.says;
+            let (Some(at_tail), Some(at_head)) = (number_at(tail), number_at(head)) else {
+                continue;
+            };
+            let most = u64::from(cost) + u64::from(at_head);
+            if u64::from(at_tail) > most {
+                let words = format!(
+                    "on lane {index}, counted from 0, the anchor table has {at_tail} at tail \
+                     {tail}, above cost {cost} + {at_head} at head {head}"
+                );
+                self.add(lane.number, 13, words);
+            }
+        }
+    }
+}

@@ -1,0 +1,70 @@
+//! Plans a job of any size and prints it in the bench program's words: those
+//! that the bench program takes through its text, larger ones through the
+//! planner call.
+
+use crate::bench_text::{answer_text, refused};
+use crate::planner::{Answer, Memory, Request, HOUSE_SCHEDULE};
+use crate::planners::Planner;
+use crate::reference::{MOST_EDGES, MOST_VERTICES};
+use crate::refusals::Taker;
+use crate::text::TextJob;
+
+/// What a planner prints for a job.
+pub fn run(planner: &dyn Planner, job: &TextJob) -> String {
+    match Taker::of(job) {
+        Taker::Bench => bench(planner, &job.bytes()),
+        Taker::Call => call(planner, job),
+    }
+}
+
+/// What the bench program prints for a job's bytes.
+fn bench(planner: &dyn Planner, bytes: &[u8]) -> String {
+    let mut text = vec![0; planner.bench_text(bytes, &mut [])];
+    planner.bench_text(bytes, &mut text);
+    String::from_utf8(text).expect("a printed text has plain letters")
+}
+
+/// The planner call that a job asks, with memory enough for all that it can
+/// give: route and work memory for the plan, and a log for 2·V turns in each
+/// round. Bytes without the numbers of a call are refused as the bench
+/// program does it.
+pub fn call(planner: &dyn Planner, job: &TextJob) -> String {
+    let Some(lines) = job.lines() else {
+        return refused(14, 0);
+    };
+    let Some(tables) = lines.tables.lines() else {
+        return refused(14, 0);
+    };
+    let numbers: Vec<Vec<u32>> = tables.into_iter().map(|table| table.says).collect();
+    let schedule: Vec<u32> = lines.rounds.iter().flat_map(|round| round.says).collect();
+    let (places, lanes) = lines.plan.lines().map_or((0, 0), |plan| {
+        let places = plan.places.says.min(MOST_VERTICES) as usize;
+        (places, plan.lanes.len().min(MOST_EDGES as usize))
+    });
+    let factors = match schedule.len() {
+        0 => HOUSE_SCHEDULE.len(),
+        length => length.min(32),
+    };
+    let turns = (factors * places).min(lines.allowance.says as usize);
+    let mut route = vec![0; places];
+    let mut log = vec![0; turns];
+    let mut work = vec![0; 5 * places + 1 + 2 * lanes];
+    let request = Request {
+        bytes: &lines.plan.bytes().expect("a job's plan has bytes"),
+        start: lines.start.says,
+        goal: lines.goal.says,
+        anchor: &numbers[0],
+        guides: &numbers[1..].concat(),
+        guide_count: numbers.len() as u32 - 1,
+        schedule: &schedule,
+        budget: lines.allowance.says,
+    };
+    let memory = Memory {
+        route: &mut route,
+        log: &mut log,
+        work: &mut work,
+    };
+    let figures = planner.plan(&request, memory);
+    let answer = Answer::of_figures(figures).expect("figures of an answer");
+    answer_text(&answer, &route, &log)
+}

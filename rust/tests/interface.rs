@@ -1,0 +1,333 @@
+//! The exported functions stand in three places: the `.rt` files, the C
+//! header and the Rust declarations. Names, order and types of their
+//! parameters are the same in all three, and each library has its own.
+
+use std::collections::BTreeMap;
+use std::fs;
+use std::path::{Path, PathBuf};
+use std::process::Command;
+
+/// The crates that export functions, and their built libraries.
+const EXPORTS: [(&str, &str); 3] = [
+    ("ffi_numbers", env!("SECONDCOOP_NUMBERS_ARCHIVE")),
+    ("ffi_plans", env!("SECONDCOOP_PLANS_ARCHIVE")),
+    ("ffi_planner", env!("SECONDCOOP_PLANNER_ARCHIVE")),
+];
+
+fn root() -> PathBuf {
+    Path::new(env!("CARGO_MANIFEST_DIR")).join("..")
+}
+
+fn read(path: &str) -> String {
+    fs::read_to_string(root().join(path)).unwrap_or_else(|error| panic!("{path}: {error}"))
+}
+
+/// A function as C has it: name and type of each parameter, and what it
+/// returns.
+#[derive(Clone, Debug, PartialEq, Eq)]
+struct Function {
+    parameters: Vec<(String, String)>,
+    returns: String,
+}
+
+type Functions = BTreeMap<String, Function>;
+
+/// A text without comments between two marks.
+fn without(text: &str, begin: &str, end: &str) -> String {
+    let mut rest = text;
+    let mut kept = String::new();
+    while let Some((front, behind)) = rest.split_once(begin) {
+        kept.push_str(front);
+        rest = behind.split_once(end).map_or("", |(_, after)| after);
+        kept.push(' ');
+    }
+    kept + rest
+}
+
+/// The text between parentheses that begins here, and what follows it.
+fn parenthesized(text: &str) -> (&str, &str) {
+    text.trim_start()
+        .strip_prefix('(')
+        .and_then(|inner| inner.split_once(')'))
+        .expect("parameters stand between parentheses")
+}
+
+/// Parts between commas outside brackets, without what follows the last.
+fn parts(list: &str) -> impl Iterator<Item = &str> {
+    list.split(',')
+        .map(str::trim)
+        .filter(|part| !part.is_empty())
+}
+
+/// A number's type in C.
+fn c_number(rust: &str) -> &'static str {
+    match rust {
+        "u8" => "uint8_t",
+        "u32" => "uint32_t",
+        "u64" => "uint64_t",
+        "usize" => "size_t",
+        _ => panic!("{rust} has no type in C"),
+    }
+}
+
+/// What a function returns, as C has it; the text begins behind its
+/// parameters.
+fn returned(text: &str) -> String {
+    match text.trim_start().strip_prefix("->") {
+        Some(kind) => c_number(kind.split([';', '{', '\n']).next().unwrap_or("").trim()).into(),
+        None => "void".into(),
+    }
+}
+
+/// The exports of a `.rt` file: a slice is a pointer and a length, an array
+/// a pointer.
+fn exported(source: &str) -> Functions {
+    let source = without(source, "//", "\n");
+    let mut functions = Functions::new();
+    for text in source.split("#[no_mangle]").skip(1) {
+        let text = text.trim_start().strip_prefix("pub extern \"C\" fn ");
+        let (name, text) = text
+            .and_then(|text| text.split_once('('))
+            .expect("an export");
+        let (list, after) = text.split_once(')').expect("parameters end");
+        let mut parameters = Vec::new();
+        for part in parts(list) {
+            let (name, kind) = part.split_once(": ").expect("a parameter has a type");
+            let (pointed, constant) = match kind.strip_prefix("&mut [") {
+                Some(pointed) => (Some(pointed), ""),
+                None => (kind.strip_prefix("&["), "const "),
+            };
+            let Some(element) = pointed.and_then(|pointed| pointed.strip_suffix(']')) else {
+                parameters.push((name.into(), c_number(kind).into()));
+                continue;
+            };
+            let (element, array) = match element.split_once("; ") {
+                Some((element, _)) => (element, true),
+                None => (element, false),
+            };
+            let pointer = format!("{constant}{} *", c_number(element));
+            parameters.push((name.into(), pointer));
+            if !array {
+                parameters.push((format!("{name}_length"), "size_t".into()));
+            }
+        }
+        let returns = returned(after);
+        functions.insert(
+            name.into(),
+            Function {
+                parameters,
+                returns,
+            },
+        );
+    }
+    functions
+}
+
+/// The functions of a C header.
+fn declared_in_c(header: &str) -> Functions {
+    let header = without(header, "/*", "*/");
+    let lines = header.lines().filter(|line| !line.starts_with('#'));
+    let header = lines.collect::<Vec<_>>().join(" ");
+    let mut functions = Functions::new();
+    for text in header.split([';', '{', '}']) {
+        let Some((front, list)) = text.split_once('(') else {
+            continue;
+        };
+        let (returns, name) = front
+            .trim()
+            .rsplit_once(' ')
+            .expect("a function has a type");
+        let list = list.trim_end().strip_suffix(')').expect("parameters end");
+        let parameter = |part: &str| {
+            let at = part.rfind([' ', '*']);
+            let (kind, name) = part.split_at(at.expect("a parameter has a type") + 1);
+            let kind = kind.split_whitespace().collect::<Vec<_>>().join(" ");
+            (name.to_string(), kind)
+        };
+        functions.insert(
+            name.into(),
+            Function {
+                parameters: parts(list).map(parameter).collect(),
+                returns: returns.trim().into(),
+            },
+        );
+    }
+    functions
+}
+
+/// The functions of a Rust file's `extern "C"` block.
+fn declared_in_rust(source: &str) -> Functions {
+    let (_, block) = source.split_once("extern \"C\" {").expect("a block");
+    let (block, _) = block.split_once("\n}").expect("the block ends");
+    let mut functions = Functions::new();
+    for text in block.split("fn ").skip(1) {
+        let at = text.find('(').expect("parameters begin");
+        let (name, text) = text.split_at(at);
+        let (list, after) = parenthesized(text);
+        let parameter = |part: &str| {
+            let (name, kind) = part.split_once(": ").expect("a parameter has a type");
+            let kind = match (kind.strip_prefix("*const "), kind.strip_prefix("*mut ")) {
+                (Some(element), _) => format!("const {} *", c_number(element)),
+                (_, Some(element)) => format!("{} *", c_number(element)),
+                _ => c_number(kind).into(),
+            };
+            (name.to_string(), kind)
+        };
+        functions.insert(
+            name.into(),
+            Function {
+                parameters: parts(list).map(parameter).collect(),
+                returns: returned(after),
+            },
+        );
+    }
+    functions
+}
+
+/// What differs, a line for each function.
+fn differences(one: &Functions, other: &Functions) -> Vec<String> {
+    let names = one.keys().chain(other.keys());
+    let mut lines: Vec<String> = names
+        .filter(|name| one.get(*name) != other.get(*name))
+        .map(|name| format!("{name}: {:?} and {:?}", one.get(name), other.get(name)))
+        .collect();
+    lines.sort();
+    lines.dedup();
+    lines
+}
+
+/// All exports of the `.rt` files.
+fn all_exported() -> Functions {
+    let sources = EXPORTS.map(|(name, _)| read(&format!("crates/{name}/src/lib.rt")));
+    sources.iter().flat_map(|source| exported(source)).collect()
+}
+
+#[test]
+fn three_places_say_the_same() {
+    let exported = all_exported();
+    assert_eq!(exported.len(), 8);
+    let header = declared_in_c(&read("include/secondcoop.h"));
+    assert_eq!(differences(&exported, &header), Vec::<String>::new());
+    let rust = declared_in_rust(&read("rust/src/ffi.rs"));
+    assert_eq!(differences(&exported, &rust), Vec::<String>::new());
+}
+
+/// Each place changed by itself is found to differ.
+#[test]
+fn a_change_in_one_place_is_found() {
+    let (header, rust) = (read("include/secondcoop.h"), read("rust/src/ffi.rs"));
+    let exported = all_exported();
+    let changed = |text: &str, old: &str, new: &str| {
+        assert!(text.contains(old), "{old}");
+        text.replacen(old, new, 1)
+    };
+    for (old, new) in [
+        (
+            "uint32_t start, uint32_t goal",
+            "uint32_t goal, uint32_t start",
+        ),
+        ("uint32_t budget", "uint64_t budget"),
+        ("const uint32_t *anchor", "uint32_t *anchor"),
+        (
+            "uint32_t *log, size_t log_length",
+            "size_t log_length, uint32_t *log",
+        ),
+        (
+            "size_t at, uint64_t *figures",
+            "uint64_t *figures, size_t at",
+        ),
+        ("size_t secondcoop_bench_text", "void secondcoop_bench_text"),
+        ("void secondcoop_check_plan", "void secondcoop_check_plans"),
+        ("uint32_t guide_count,", ""),
+        (
+            "void secondcoop_plan(",
+            "void secondcoop_other(int i); void secondcoop_plan(",
+        ),
+    ] {
+        let header = declared_in_c(&changed(&header, old, new));
+        assert!(
+            !differences(&exported, &header).is_empty(),
+            "{old} -> {new}"
+        );
+    }
+    for (old, new) in [
+        (
+            "start: u32,\n        goal: u32",
+            "goal: u32,\n        start: u32",
+        ),
+        ("budget: u32", "budget: u64"),
+        ("anchor: *const u32", "anchor: *mut u32"),
+        (") -> usize;", ");"),
+        ("fn secondcoop_check_plan(", "fn secondcoop_check_plans("),
+        ("        guide_count: u32,\n", ""),
+    ] {
+        let rust = declared_in_rust(&changed(&rust, old, new));
+        assert!(!differences(&exported, &rust).is_empty(), "{old} -> {new}");
+    }
+    let source = read("crates/ffi_planner/src/lib.rt");
+    let planner = self::exported(&source);
+    for (old, new) in [
+        (
+            "    start: u32,\n    goal: u32",
+            "    goal: u32,\n    start: u32",
+        ),
+        ("log: &mut [u32]", "log: &[u32]"),
+        ("work: &mut [u32]", "work: &mut [u64]"),
+        ("-> usize", "-> u32"),
+        ("#[no_mangle]", ""),
+    ] {
+        let source = self::exported(&changed(&source, old, new));
+        assert!(!differences(&planner, &source).is_empty(), "{old} -> {new}");
+    }
+}
+
+/// Symbols of a library by `nm`: kind and name of each.
+fn symbols(archive: &str) -> Vec<(char, String)> {
+    let output = Command::new("nm").arg(archive).output().expect("nm runs");
+    assert!(output.status.success());
+    let text = String::from_utf8(output.stdout).expect("plain text");
+    let symbol = |line: &str| {
+        let words: Vec<&str> = line.split_whitespace().collect();
+        match words[..] {
+            [.., kind, name] if kind.len() == 1 => Some((kind.chars().next()?, name.into())),
+            _ => None,
+        }
+    };
+    text.lines().filter_map(symbol).collect()
+}
+
+/// Each library exports the functions of its crate, needs `memset` at most,
+/// and has no data that can be written.
+#[test]
+fn libraries_are_as_the_header_says() {
+    let mut needed = Vec::new();
+    for (name, archive) in EXPORTS {
+        let symbols = symbols(archive);
+        let exports = exported(&read(&format!("crates/{name}/src/lib.rt")));
+        for function in exports.keys() {
+            assert!(symbols.contains(&('T', function.clone())), "{function}");
+        }
+        for (kind, symbol) in symbols {
+            match kind {
+                'U' => needed.push(symbol),
+                'T' => assert!(exports.contains_key(&symbol), "{name} exports {symbol}"),
+                // Functions and constants of the library's own.
+                't' | 'r' => {}
+                _ => panic!("{name}: {symbol} is of kind {kind}"),
+            }
+        }
+        // An ELF file of 64 bits, little end first, for x86-64.
+        let bytes = fs::read(archive).expect("an archive");
+        let elf: Vec<&[u8]> = bytes
+            .windows(20)
+            .filter(|bytes| bytes.starts_with(b"\x7FELF"))
+            .collect();
+        assert!(!elf.is_empty());
+        for header in elf {
+            assert_eq!((&header[4..6], &header[18..]), (&[2, 1][..], &[62, 0][..]));
+        }
+    }
+    needed.sort();
+    needed.dedup();
+    assert_eq!(needed, ["memset"]);
+}

@@ -1,0 +1,159 @@
+//! Jobs of any size through `run`: the bench program's words within its
+//! limits, the planner call beyond them, and what is said of a refusal.
+
+use secondcoop_tests::bench_text::{answer_text, MOST_BENCH_EDGES, MOST_BENCH_VERTICES};
+use secondcoop_tests::generate;
+use secondcoop_tests::guarded::GUARD;
+use secondcoop_tests::jobs::{self, Job};
+use secondcoop_tests::planners::{self, kind_of_text, Library, Planner, SecondPlanner, KINDS};
+use secondcoop_tests::random::Random;
+use secondcoop_tests::refusals::{remarks, Taker};
+use secondcoop_tests::run;
+use secondcoop_tests::text::TextJob;
+
+/// What the bench program prints, by the library.
+fn bench_text(bytes: &[u8]) -> String {
+    let mut text = vec![0; Library.bench_text(bytes, &mut [])];
+    Library.bench_text(bytes, &mut text);
+    String::from_utf8(text).unwrap()
+}
+
+/// What the planner call of a job gives, printed.
+fn call_text(job: &Job) -> String {
+    let outcome = planners::run(&Library, job, 0);
+    let lent = |all: &[u32]| all[GUARD..all.len() - GUARD].to_vec();
+    answer_text(
+        &outcome.answer(),
+        &lent(&outcome.route),
+        &lent(&outcome.log),
+    )
+}
+
+/// The first remark has the refusal that is printed, and what is planned has
+/// none.
+fn remarks_agree(job: &TextJob, taker: Taker, printed: &str) -> usize {
+    let kind = kind_of_text(printed);
+    let remarks = remarks(job, taker);
+    match remarks.first() {
+        Some(first) => assert_eq!(first.refusal as usize, kind, "{remarks:?}: {job}"),
+        None => assert!(!(1..=14).contains(&kind), "refusal {kind}: {job}"),
+    }
+    kind
+}
+
+#[test]
+fn the_bench_programs_words_within_its_limits() {
+    let mut kinds = [0; KINDS];
+    jobs::bench_jobs(71, 2_000, &mut |bytes, _| {
+        let job = TextJob::of_bytes(bytes);
+        let printed = run::run(&Library, &job);
+        if Taker::of(&job) == Taker::Bench {
+            assert_eq!(printed, bench_text(bytes), "{job}");
+        }
+        assert_eq!(printed, run::run(&SecondPlanner, &job), "{job}");
+        kinds[remarks_agree(&job, Taker::of(&job), &printed)] += 1;
+    });
+    for (kind, count) in kinds.into_iter().enumerate() {
+        match kind {
+            // Only jobs beyond the limits, of which there are some, meet 9.
+            9 => {}
+            11 => assert_eq!(count, 0),
+            _ => assert!(count > 20, "kind {kind}: {count}"),
+        }
+    }
+}
+
+/// A valid job with more places or lanes than the bench program takes.
+fn larger_job(random: &mut Random) -> (generate::Plan, Job) {
+    let (places, lanes) = match random.below(3) {
+        0 => (random.range32(257, 300), random.index(2_000)),
+        1 => (random.range32(50, 256), random.range(2_049, 2_100) as usize),
+        _ => (
+            random.range32(500, 1_000),
+            random.range(1_000, 4_000) as usize,
+        ),
+    };
+    let plan = generate::random_plan(random, places, lanes);
+    let mut job = jobs::job_on(random, &plan);
+    job.log_room = 2 * 16 * places as usize;
+    (plan, job)
+}
+
+#[test]
+fn the_planner_call_beyond_them() {
+    let mut random = Random::new(72);
+    let mut kinds = [0; KINDS];
+    for _ in 0..150 {
+        let (_, mut job) = larger_job(&mut random);
+        job.budget = random.pick(&[0, 1, 40, 100_000]);
+        let text = TextJob::of_bytes(&job.bench_bytes());
+        assert_eq!(Taker::of(&text), Taker::Call);
+        let printed = run::run(&Library, &text);
+        assert_eq!(printed, call_text(&job));
+        assert_eq!(printed, run::run(&SecondPlanner, &text));
+        kinds[remarks_agree(&text, Taker::Call, &printed)] += 1;
+    }
+    for kind in [planners::ROUTE, planners::NO_ROUTE, planners::UNFINISHED] {
+        assert!(kinds[kind] > 10, "kind {kind}: {}", kinds[kind]);
+    }
+}
+
+/// All places and lanes that a plan may have, all guides and rounds.
+#[test]
+fn jobs_at_the_limits_of_a_call() {
+    let mut most = [0; 2];
+    jobs::large_jobs(73, &mut |plan, job| {
+        let mut job = job.clone();
+        job.log_room = 2 * 16 * plan.vertices as usize;
+        let text = TextJob::of_bytes(&job.bench_bytes());
+        let (places, lanes) = (plan.vertices as usize, plan.edges());
+        if places > MOST_BENCH_VERTICES || lanes > MOST_BENCH_EDGES {
+            assert_eq!(Taker::of(&text), Taker::Call);
+        }
+        let printed = run::run(&Library, &text);
+        assert_eq!(printed, call_text(&job));
+        // No turn is left out.
+        let [_, _, _, _, _, _, turns, _] = planners::run(&Library, &job, 1).figures;
+        let lines = printed.lines().filter(|line| line.starts_with("turn "));
+        assert_eq!(lines.count(), turns as usize);
+        most = [most[0].max(places), most[1].max(lanes)];
+    });
+    assert_eq!(most, [4_096, 32_768]);
+}
+
+/// Each refusal of a call, in the right words.
+#[test]
+fn refusals_of_a_call() {
+    let mut random = Random::new(74);
+    let mut kinds = [0; KINDS];
+    let mut refused = |job: &Job| {
+        let text = TextJob::of_bytes(&job.bench_bytes());
+        let printed = run::call(&Library, &text);
+        assert_eq!(printed, run::call(&SecondPlanner, &text));
+        kinds[remarks_agree(&text, Taker::Call, &printed)] += 1;
+    };
+    for _ in 0..25 {
+        for number in [1, 2, 3, 4, 5, 6, 7, 8, 9, 10, 12, 13] {
+            let (plan, mut job) = larger_job(&mut random);
+            if jobs::damage_job(&mut random, &plan, &mut job, number).is_some() {
+                refused(&job);
+            }
+        }
+    }
+    // Small jobs too, with one fault and with several.
+    jobs::damaged_jobs(75, 2_000, &mut |job, _| refused(job));
+    jobs::wild_jobs(76, 2_000, &mut |job| refused(job));
+    // Nine guides, and seventeen rounds.
+    let (plan, mut job) = larger_job(&mut random);
+    job.schedule = vec![100; 34];
+    refused(&job);
+    job.guide_count = 9;
+    job.guides = vec![0; 9 * plan.vertices as usize];
+    refused(&job);
+    for (kind, count) in kinds.into_iter().enumerate() {
+        match kind {
+            11 => assert_eq!(count, 0),
+            _ => assert!(count > 10, "kind {kind}: {count}"),
+        }
+    }
+}

@@ -1,0 +1,375 @@
+//! The tools `job` and `plan` as people use them: forms of input, messages
+//! and exit statuses.
+
+use std::fs;
+use std::io::Write as _;
+use std::path::{Path, PathBuf};
+use std::process::{Command, Stdio};
+
+use secondcoop_tests::generate::random_plan;
+use secondcoop_tests::jobs;
+use secondcoop_tests::planners::SecondPlanner;
+use secondcoop_tests::random::Random;
+use secondcoop_tests::run;
+use secondcoop_tests::text::TextJob;
+
+/// What a tool leaves.
+#[derive(Debug, PartialEq, Eq)]
+struct Left {
+    status: i32,
+    out: String,
+    err: String,
+}
+
+/// Runs a tool with something on standard input.
+fn tool(program: &str, arguments: &[&str], input: &[u8]) -> Left {
+    let mut child = Command::new(program)
+        .args(arguments)
+        .stdin(Stdio::piped())
+        .stdout(Stdio::piped())
+        .stderr(Stdio::piped())
+        .spawn()
+        .expect("the tool runs");
+    // A tool that reads nothing may have ended by now.
+    let _ = child.stdin.take().expect("a pipe").write_all(input);
+    let output = child.wait_with_output().expect("the tool ends");
+    let text = |bytes| String::from_utf8(bytes).expect("plain text");
+    Left {
+        status: output.status.code().expect("a status"),
+        out: text(output.stdout),
+        err: text(output.stderr),
+    }
+}
+
+fn job(arguments: &[&str], input: impl AsRef<[u8]>) -> Left {
+    tool(env!("CARGO_BIN_EXE_job"), arguments, input.as_ref())
+}
+
+fn plan(arguments: &[&str], input: impl AsRef<[u8]>) -> Left {
+    tool(env!("CARGO_BIN_EXE_plan"), arguments, input.as_ref())
+}
+
+fn example(name: &str) -> PathBuf {
+    Path::new(env!("CARGO_MANIFEST_DIR"))
+        .join("../examples")
+        .join(name)
+}
+
+fn read(name: &str) -> String {
+    fs::read_to_string(example(name)).expect("an example")
+}
+
+/// An example with some text in place of another.
+fn with(name: &str, old: &str, new: &str) -> String {
+    let text = read(name);
+    assert!(text.contains(old), "{name} has no {old}");
+    text.replace(old, new)
+}
+
+fn left(status: i32, out: &str, err: &str) -> Left {
+    let (out, err) = (out.into(), err.into());
+    Left { status, out, err }
+}
+
+#[test]
+fn the_line_of_the_wrong_length_is_blamed() {
+    let text = with("job-a.txt", "anchor 6 5 3 0", "anchor 6 5 3");
+    let words = "standard input: line 13: the anchor table has 3 numbers, and the plan has 4 \
+                 places\n";
+    for command in ["check", "run", "print", "bytes"] {
+        assert_eq!(job(&[command], &text), left(4, "", words));
+    }
+}
+
+#[test]
+fn an_empty_file_holds_no_job() {
+    let words = "standard input: nothing stands there\n";
+    assert_eq!(job(&["check"], ""), left(4, "", words));
+    assert_eq!(job(&["run"], "\u{feff}"), left(4, "", words));
+    assert_eq!(plan(&[], ""), left(4, "", words));
+    let words = "standard input: there is no line 'places V'\n";
+    assert_eq!(job(&["run"], "\n \n# only a comment\n"), left(4, "", words));
+    assert_eq!(plan(&[], "\n"), left(4, "", words));
+}
+
+#[test]
+fn a_comment_in_latin_1_is_a_comment() {
+    let mut text = b"# Gabelh\xF6he, Bl\xE4tter 1\xBD\n".to_vec();
+    text.extend(read("job-a.txt").into_bytes());
+    assert_eq!(job(&["run"], &text), left(0, &read("job-a.out"), ""));
+    let mut text = b"# Stra\xDFe\n".to_vec();
+    text.extend(read("plan-a.txt").into_bytes());
+    assert_eq!(plan(&[], &text).status, 0);
+    // Outside a comment its line is told.
+    let text = [b"places 4\nl\xE4ne 0 1 1".as_slice()].concat();
+    let words = "standard input: line 2: 'l\u{e4}ne' begins no line; a line is places, lane, \
+                 start, goal, allowance, round, anchor or guide\n";
+    assert_eq!(job(&["check"], text), left(4, "", words));
+}
+
+#[test]
+fn a_wrong_pair_is_told() {
+    let words = |line: u32, word: &str| {
+        format!("standard input: line {line}: '{word}' is not a hexadecimal pair from 00 to FF\n")
+    };
+    for (text, line, word) in [
+        ("0G", 1, "0G"),
+        ("0E 04 04\n00 0G 01", 2, "0G"),
+        ("0E0404", 1, "0E0404"),
+        ("0E 04\n\nplaces", 3, "places"),
+    ] {
+        assert_eq!(job(&["check"], text), left(4, "", &words(line, word)));
+        assert_eq!(plan(&[], text), left(4, "", &words(line, word)));
+    }
+    // Pairs may have comments.
+    let pairs = job(&["hex"], read("job-a.txt")).out;
+    let text = format!("# job A\n{pairs}");
+    assert_eq!(job(&["run"], text), left(0, &read("job-a.out"), ""));
+}
+
+#[test]
+fn a_byte_order_mark_is_left_out() {
+    let text = format!("\u{feff}{}", read("job-a.txt"));
+    assert_eq!(job(&["run"], &text), left(0, &read("job-a.out"), ""));
+    let pairs = format!("\u{feff}{}", job(&["hex"], &text).out);
+    assert_eq!(job(&["run"], pairs), left(0, &read("job-a.out"), ""));
+    let text = format!("\u{feff}{}", read("plan-a.txt"));
+    assert_eq!(plan(&[], text).status, 0);
+    // In the middle of a text it is spelt out.
+    let text = with("job-a.txt", "start", "\u{feff}start");
+    let left = job(&["check"], text);
+    assert!(left.err.contains("line 8: '\\u{feff}start' begins no line"));
+    // A text in UTF-16 is told.
+    let words = "standard input: this text is in UTF-16; it is read in UTF-8\n";
+    let units: Vec<u16> = format!("\u{feff}{}", read("job-a.txt"))
+        .encode_utf16()
+        .collect();
+    let little: Vec<u8> = units.iter().flat_map(|unit| unit.to_le_bytes()).collect();
+    let big: Vec<u8> = units.iter().flat_map(|unit| unit.to_be_bytes()).collect();
+    for text in [little, big] {
+        assert_eq!(job(&["check"], &text), self::left(4, "", words));
+        assert_eq!(plan(&["-"], &text), self::left(4, "", words));
+    }
+}
+
+#[test]
+fn one_fault_is_told_once() {
+    for (old, new, words) in [
+        (
+            "places 24",
+            "places 0",
+            "line 11: a plan has 1 to 4096 places, not 0 (refusal 2)\n\
+             the bench program prints: refused 2 at 0\n",
+        ),
+        (
+            "places 24",
+            "places 5000",
+            "line 11: a plan has 1 to 4096 places, not 5000 (refusal 2)\n\
+             'job run' prints: refused 2 at 0\n",
+        ),
+        (
+            "start 6",
+            "start 24",
+            "line 74: start 24 is not a place; places are 0 to 23 (refusal 8)\n\
+             the bench program prints: refused 8 at 0\n",
+        ),
+    ] {
+        let text = with("wall.txt", old, new);
+        assert_eq!(job(&["check"], text), left(3, words, ""));
+    }
+}
+
+#[test]
+fn help_is_printed() {
+    for arguments in [
+        &["--help"][..],
+        &["-h"],
+        &["help"],
+        &["run", "--help"],
+        &["check", "-h"],
+    ] {
+        let left = job(arguments, "");
+        assert_eq!((left.status, left.err.as_str()), (0, ""), "{arguments:?}");
+        for command in ["run", "check", "print", "bytes", "hex", "text", "describe"] {
+            assert!(left.out.contains(&format!(" job {command} ")), "{command}");
+        }
+        // The second planner is named where it is used.
+        let print = left.out.lines().find(|line| line.contains(" job print "));
+        assert!(print.is_some_and(|line| line.contains("second planner")));
+    }
+    for argument in ["--help", "-h", "help"] {
+        let left = plan(&[argument], "");
+        assert_eq!((left.status, left.err.as_str()), (0, ""));
+        assert!(left.out.starts_with("usage: plan FILE\n"));
+    }
+    // Wrong use shows the same on standard error.
+    for arguments in [
+        &[][..],
+        &["plan"],
+        &["run", "a", "b"],
+        &["describe", "4", "5"],
+    ] {
+        let left = job(arguments, "");
+        assert_eq!((left.status, left.out.as_str()), (4, ""), "{arguments:?}");
+        assert!(left.err.starts_with("usage: job run FILE"));
+    }
+    assert_eq!(plan(&["a", "b"], "").status, 4);
+}
+
+#[test]
+fn standard_input_is_read() {
+    for name in ["job-a", "wall", "no-route", "refusal-13"] {
+        let path = example(&format!("{name}.txt"));
+        let path = path.to_str().expect("a path");
+        for command in ["run", "check", "print", "bytes", "hex", "text"] {
+            let of_file = tool_bytes(&[command, path], b"");
+            let text = fs::read(path).expect("an example");
+            assert_eq!(tool_bytes(&[command, "-"], &text), of_file);
+            assert_eq!(tool_bytes(&[command], &text), of_file);
+        }
+    }
+    let path = example("plan-a.txt");
+    let of_file = plan(&[path.to_str().expect("a path")], "");
+    assert_eq!(of_file.out, "04 04 00 01 01 00 02 04 01 02 02 01 03 03\n");
+    assert_eq!(plan(&["-"], read("plan-a.txt")), of_file);
+    assert_eq!(plan(&[], read("plan-a.txt")), of_file);
+    let no_file = job(&["check", "no such file"], "");
+    assert_eq!((no_file.status, no_file.out.as_str()), (4, ""));
+    assert!(no_file.err.starts_with("no such file: "));
+}
+
+/// Status and output of `job`, which may be bytes.
+fn tool_bytes(arguments: &[&str], input: &[u8]) -> (Option<i32>, Vec<u8>) {
+    let mut child = Command::new(env!("CARGO_BIN_EXE_job"))
+        .args(arguments)
+        .stdin(Stdio::piped())
+        .stdout(Stdio::piped())
+        .stderr(Stdio::null())
+        .spawn()
+        .expect("the tool runs");
+    let _ = child.stdin.take().expect("a pipe").write_all(input);
+    let output = child.wait_with_output().expect("the tool ends");
+    (output.status.code(), output.stdout)
+}
+
+#[test]
+fn check_says_that_all_is_well() {
+    for (name, words) in [
+        ("job-a", "4 places, 4 lanes, 1 guide, 2 rounds"),
+        (
+            "wall",
+            "24 places, 62 lanes, 1 guide, the house schedule of 6 rounds",
+        ),
+    ] {
+        let words = format!("nothing is wrong: {words}\n");
+        assert_eq!(
+            job(&["check"], read(&format!("{name}.txt"))),
+            left(0, &words, "")
+        );
+    }
+}
+
+#[test]
+fn positions_are_described_for_reader_and_writer() {
+    let writer = "where a plan was to be written, it is a lane, counted from 0\n";
+    for number in ["4", "5", "6"] {
+        let left = job(&["describe", number], "");
+        assert_eq!(left.status, 0);
+        assert!(left.out.contains("the position is a byte of the plan"));
+        assert!(left.out.ends_with(writer), "{}", left.out);
+    }
+    for number in 1..=14 {
+        let left = job(&["describe", &number.to_string()], "");
+        assert!(left.out.starts_with(&format!("refusal {number}: ")));
+    }
+    for number in ["0", "15", "four", "-1"] {
+        let words = format!("'{number}' is not a refusal's number, 1 to 14\n");
+        assert_eq!(job(&["describe", number], ""), left(4, "", &words));
+    }
+    // The writer's lane is named by `plan` too.
+    let text = "places 4\nlane 0 1 1\nlane 0 9 1\n";
+    let words = "refused 4 at 1, lane number 1 from 0: a tail or head is not a place\n";
+    assert_eq!(plan(&[], text), left(3, "", words));
+    let words = "refused 4 at 3, byte number 3 from 0: a tail or head is not a place\n";
+    assert_eq!(plan(&[], "04 01 00 09 01"), left(3, "", words));
+}
+
+#[test]
+fn the_exit_status_tells_the_ending() {
+    for (name, status) in [
+        ("job-a", 0),
+        ("wall", 0),
+        ("cut-round-two", 0),
+        ("start-is-goal", 0),
+        ("no-route", 1),
+        ("refusal-01", 3),
+        ("refusal-13", 3),
+        ("refusal-14", 3),
+    ] {
+        let printed = read(&format!("{name}.out"));
+        for form in ["txt", "job"] {
+            let contents = fs::read(example(&format!("{name}.{form}"))).expect("an example");
+            for command in ["run", "print"] {
+                let left = job(&[command], &contents);
+                assert_eq!((left.status, left.out.as_str()), (status, printed.as_str()));
+                assert_eq!(left.err.is_empty(), status != 3, "{}", left.err);
+            }
+        }
+    }
+    let cut = with("job-a.txt", "allowance 100", "allowance 1");
+    let printed = "turn 1 table 1 place 0\nunfinished turns 1\n";
+    assert_eq!(job(&["run"], cut), left(2, printed, ""));
+    // The refusal in plain words, by text and by bytes.
+    let words = "on lane 0, counted from 0, the anchor table has 7 at tail 0, above cost 1 + 5 \
+                 at head 1 (refusal 13)\n";
+    assert_eq!(
+        job(&["run"], read("refusal-13.txt")),
+        left(3, "refused 13 at 0\n", &format!("line 3: {words}"))
+    );
+    let note = "(the lines are those that 'job text' prints)\n";
+    assert_eq!(
+        job(&["run"], fs::read(example("refusal-13.job")).unwrap()),
+        left(3, "refused 13 at 0\n", &format!("line 2: {words}{note}"))
+    );
+}
+
+#[test]
+fn jobs_beyond_the_bench_program_are_planned() {
+    let mut random = Random::new(81);
+    let plan = random_plan(&mut random, 4_096, 32_768);
+    let mut large = jobs::job_on(&mut random, &plan);
+    (large.start, large.goal, large.budget) = (0, 1, u32::MAX);
+    large.anchor = vec![0; 4_096];
+    let bytes = large.bench_bytes();
+    let text = TextJob::of_bytes(&bytes);
+    let printed = run::run(&SecondPlanner, &text);
+    let status = i32::from(!printed.contains("\nend cost "));
+    for contents in [bytes.clone(), text.to_string().into_bytes()] {
+        assert_eq!(job(&["run"], &contents), left(status, &printed, ""));
+        let check = job(&["check"], &contents);
+        assert_eq!(check.status, 0);
+        let size = "nothing is wrong: 4096 places, 32768 lanes, ";
+        assert!(check.out.starts_with(size), "{}", check.out);
+        let end = "; too large for the bench program, 'job run' plans it\n";
+        assert!(check.out.ends_with(end), "{}", check.out);
+    }
+    // Its refusals are those of the planner call.
+    large.anchor[1] = 1;
+    let refused = job(&["run"], large.bench_bytes());
+    assert_eq!(
+        (refused.status, refused.out.as_str()),
+        (3, "refused 12 at 0\n")
+    );
+    assert!(refused
+        .err
+        .contains("the anchor table has 1 at the goal 1, not 0 (refusal 12)"));
+    large.schedule = vec![100; 34];
+    let refused = job(&["run"], large.bench_bytes());
+    assert_eq!(
+        (refused.status, refused.out.as_str()),
+        (3, "refused 10 at 0\n")
+    );
+    assert!(refused
+        .err
+        .contains("there are 17 rounds, over 16 (refusal 10)"));
+}
