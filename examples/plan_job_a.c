@@ -10,21 +10,22 @@
 
 #include "secondcoop.h"
 
-enum { PLACES = 4, LANES = 4, LENGTH = 4 };
+enum { PLACES = 4, LANES = 4, ROUNDS = 2, LENGTH = 4 };
 
 int main(void)
 {
     static const uint8_t plan[] = {4, 4, 0, 1, 1, 0, 2, 4, 1, 2, 2, 1, 3, 3};
     static const uint32_t anchor[PLACES] = {6, 5, 3, 0};
     static const uint32_t guide[PLACES] = {0, 9, 0, 0};
-    static const uint32_t schedule[] = {200, 200, 100, 100};
-    uint32_t route[PLACES];
-    uint32_t log[16];
-    uint32_t work[5 * PLACES + 1 + 2 * LANES];
-    uint64_t figures[8];
+    static const uint32_t schedule[2 * ROUNDS] = {200, 200, 100, 100};
+    uint32_t route[SECONDCOOP_ROUTE_WORDS(PLACES)];
+    uint32_t log[SECONDCOOP_TURNS(PLACES, ROUNDS)];
+    uint32_t work[SECONDCOOP_WORK_WORDS(PLACES, LANES)];
+    uint64_t figures[SECONDCOOP_PLAN_FIGURES];
 
+    /* Job A's allowance is 100 turns; SECONDCOOP_TURNS, 16, would do. */
     secondcoop_plan(plan, sizeof plan, 0, 3, anchor, PLACES, guide, PLACES, 1,
-                    schedule, sizeof schedule / sizeof schedule[0], 100,
+                    schedule, 2 * ROUNDS, 100,
                     route, PLACES, log, sizeof log / sizeof log[0],
                     work, sizeof work / sizeof work[0], figures);
 
@@ -50,7 +51,8 @@ int main(void)
     }
 
     /* The paper's answer: cost 6, two rounds, four turns, bound 10000. */
-    static const uint64_t answer[8] = {SECONDCOOP_ROUTE, 0, 0, 6, LENGTH, 2, 4, 10000};
+    static const uint64_t answer[SECONDCOOP_PLAN_FIGURES] = {
+        SECONDCOOP_ROUTE, 0, 0, 6, LENGTH, ROUNDS, 4, 10000};
     static const uint32_t places[LENGTH] = {0, 1, 2, 3};
     static const uint32_t turns[] = {65536, 65538, 1, 65538};
     if (memcmp(figures, answer, sizeof answer) != 0)

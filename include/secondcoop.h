@@ -11,12 +11,21 @@
  * the only one.
  *
  * For every function:
- * - A list is a pointer and the count of its elements. An empty list may
- *   have any pointer that is not null and fits the element's alignment.
+ * - A list is a pointer and the count of its elements. It is aligned as its
+ *   elements are: bytes anywhere, 32-bit words at multiples of 4, figures at
+ *   multiples of 8. An empty list may have any such pointer but null.
  * - Memory that is written does not overlap other memory of the same call.
  *   Memory beyond what is written keeps its contents.
- * - `figures` points to as many numbers as stated; the call writes them all,
- *   unused ones as 0. A refusal leaves all other memory untouched.
+ * - `figures` points to SECONDCOOP_FIGURES numbers, for secondcoop_plan to
+ *   SECONDCOOP_PLAN_FIGURES; the call writes them all, unused ones as 0. A
+ *   refusal leaves all other memory untouched.
+ * - Nothing is kept from call to call and there is no global state: several
+ *   threads may call at once with different memory to write; what is only
+ *   read they may share. Nothing is allocated, and every call returns.
+ * - The libraries are for x86-64 with the System V calling convention (ELF
+ *   objects, as on Linux) and need `memset` from outside, nothing else.
+ * - A call needs SECONDCOOP_STACK bytes of stack at most, secondcoop_plan
+ *   SECONDCOOP_PLAN_STACK, secondcoop_bench_text SECONDCOOP_TEXT_STACK.
  * - `rt staticlib NAME` makes target/staticlib/libNAME.a: ffi_numbers has the
  *   functions on numbers, ffi_plans those on plans, ffi_planner those on
  *   planner calls and bench jobs. A program links those that it calls.
@@ -55,15 +64,77 @@
 extern "C" {
 #endif
 
+/* The version of this interface: it rises when a declaration changes, or
+ * what a number or a word of memory means. */
+#define SECONDCOOP_VERSION 1
+
+/* Limits of a plan and of a call. */
+#define SECONDCOOP_MAX_PLACES 4096
+#define SECONDCOOP_MAX_LANES 32768
+#define SECONDCOOP_MAX_COST 1000000
+#define SECONDCOOP_MAX_GUIDES 8
+#define SECONDCOOP_MAX_ROUNDS 16
+#define SECONDCOOP_MIN_FACTOR 100
+#define SECONDCOOP_MAX_FACTOR 10000
+
+/* The rounds of the house schedule, which an empty schedule means. */
+#define SECONDCOOP_HOUSE_ROUNDS 6
+
+/* Sizes of lent memory, in elements: figures; plan bytes that are always
+ * enough to write so many lanes; route and work memory of a planner call; the
+ * longest text of a bench job. */
+#define SECONDCOOP_FIGURES 4
+#define SECONDCOOP_PLAN_FIGURES 8
+#define SECONDCOOP_PLAN_BYTES(lanes) (6 + 9 * (size_t)(lanes))
+#define SECONDCOOP_ROUTE_WORDS(places) ((size_t)(places))
+#define SECONDCOOP_WORK_WORDS(places, lanes) \
+    (5 * (size_t)(places) + 1 + 2 * (size_t)(lanes))
+#define SECONDCOOP_MAX_TEXT 289654
+
+/*
+ * The turns that always suffice for so many rounds, 2 * V for each: an
+ * allowance of SECONDCOOP_TURNS(V, 1) never ends a call as unfinished, and
+ * one for all rounds of the schedule (SECONDCOOP_HOUSE_ROUNDS if it is empty)
+ * finishes them all, unless there is no route. A log of as many words shows
+ * every turn of such a call. At most 131072.
+ */
+#define SECONDCOOP_TURNS(places, rounds) \
+    (2 * (size_t)(places) * (size_t)(rounds))
+
+/* Stack of a call, in bytes: of each function on numbers or plans, of
+ * secondcoop_plan, of secondcoop_bench_text. Measured, with room to spare. */
+#define SECONDCOOP_STACK 1024
+#define SECONDCOOP_PLAN_STACK 16384
+#define SECONDCOOP_TEXT_STACK 81920
+
 /* Not reached, never expanded, no predecessor; and what follows a route. */
 #define SECONDCOOP_NONE UINT32_C(4294967295)
 
-/* The four figures of a call on plan bytes; refusal 0 is none. */
+/* The four figures of a call on numbers or plans. */
 enum {
     SECONDCOOP_REFUSAL = 0,
     SECONDCOOP_POSITION = 1,
     SECONDCOOP_FIRST = 2,
     SECONDCOOP_SECOND = 3
+};
+
+/* Refusal numbers, as in the table above. */
+enum {
+    SECONDCOOP_NOT_REFUSED = 0,
+    SECONDCOOP_BAD_NUMBER = 1,
+    SECONDCOOP_BAD_PLACE_COUNT = 2,
+    SECONDCOOP_BAD_LANE_COUNT = 3,
+    SECONDCOOP_NOT_A_PLACE = 4,
+    SECONDCOOP_BAD_COST = 5,
+    SECONDCOOP_BAD_LANE_ORDER = 6,
+    SECONDCOOP_BYTES_LEFT_OVER = 7,
+    SECONDCOOP_BAD_START_OR_GOAL = 8,
+    SECONDCOOP_BAD_TABLES = 9,
+    SECONDCOOP_BAD_SCHEDULE = 10,
+    SECONDCOOP_SHORT_MEMORY = 11,
+    SECONDCOOP_ANCHOR_NOT_0_AT_GOAL = 12,
+    SECONDCOOP_ANCHOR_BREAKS_RULE = 13,
+    SECONDCOOP_NOT_A_JOB = 14
 };
 
 /*
@@ -114,7 +185,7 @@ void secondcoop_read_plan(const uint8_t *bytes, size_t bytes_length,
  * Figures: refusal 2, then 3 (also for unequal lists), then lane by lane 4,
  * 6 (also for a falling tail), 5, with the lane's number as position, and
  * last 11 if the output is too short; or the count of bytes written as first
- * value. 6 + 9M bytes are always enough.
+ * value. SECONDCOOP_PLAN_BYTES(M) bytes are always enough.
  */
 void secondcoop_write_plan(uint32_t vertices,
                            const uint32_t *tails, size_t tails_length,
@@ -148,14 +219,17 @@ enum {
  *
  * bytes        The plan.
  * anchor       The anchor table, V numbers: 0 at the goal, and on every lane
- *              the tail's number is at most cost + the head's number.
+ *              the tail's number is at most cost + the head's number. A table
+ *              of zeros always passes.
  * guides       The guide sheets one after another, guide_count times V
  *              numbers, guide_count 0 to 8; any numbers.
  * schedule     W1 and W2 of each round in hundredths, 100 to 10000, neither
  *              rising from a round to the next; up to 16 rounds, 32 numbers.
  *              An empty schedule means the house schedule, W1 = W2 = 500,
  *              300, 200, 150, 120, 100.
- * budget       The allowance: the turns permitted over all rounds.
+ * budget       The allowance: the turns permitted over all rounds. 2 * V are
+ *              enough for the first round, 2 * V times the rounds for all
+ *              (SECONDCOOP_TURNS).
  *
  * Figures, unused ones 0:
  * - route:      kept cost, route length (the number of its places), finished
@@ -172,8 +246,9 @@ enum {
  *   SECONDCOOP_NONE up to V words. Without a route it is unchanged.
  * - log, any length: word k, counted from 1, is the k-th turn's place +
  *   65536 * table (0 is the anchor, 1 the first guide); turns past its end
- *   are not logged.
- * - work, at least 5V+1+2M words: V+1 first lane numbers (the last is M),
+ *   are not logged. No call has more turns than its allowance, nor more than
+ *   2 * V times its rounds.
+ * - work, at least 5V+1+2M words (SECONDCOOP_WORK_WORDS): V+1 first lane numbers (the last is M),
  *   M heads, M costs, then four words for each place: its cost g, its cost
  *   when last expanded, its predecessor, and its marks as a sum (1 guide,
  *   2 anchor, 4 open, 8 held), as the search left them.
@@ -197,7 +272,8 @@ void secondcoop_plan(const uint8_t *bytes, size_t bytes_length,
  *
  * Gives the length of the text; its first bytes are written as far as there
  * is room, without a byte 0 at the end, and the rest of the memory keeps its
- * contents. A call with no room gives the length alone.
+ * contents. A call with no room gives the length alone; no text is longer
+ * than SECONDCOOP_MAX_TEXT bytes.
  *
  * Refusal 14 comes first for over 32768 bytes, over 16 rounds or 8 guides,
  * or bytes missing or a number of bad form up to the guide count; and after

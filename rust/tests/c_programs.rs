@@ -1,4 +1,5 @@
-//! The C header: programs built with it plan job A and call every function.
+//! The C header: programs built with it plan job A, call every function, meet
+//! every refusal number and measure the stack; it is C++ too.
 
 use std::path::{Path, PathBuf};
 use std::process::{Command, Output};
@@ -8,11 +9,19 @@ fn root() -> PathBuf {
     Path::new(env!("CARGO_MANIFEST_DIR")).join("..")
 }
 
-/// Builds a C program with all warnings as errors and runs it.
-fn build_and_run(source: &Path) -> Output {
+/// A command's words where it fails.
+fn must_succeed(command: &mut Command) {
+    let output = command.output().expect("a compiler runs");
+    let words = String::from_utf8_lossy(&output.stderr);
+    assert!(output.status.success(), "{words}");
+}
+
+/// Builds a C program with all warnings as errors.
+fn build(source: &Path) -> PathBuf {
     let name = source.file_stem().expect("a source has a name");
     let program = Path::new(env!("CARGO_TARGET_TMPDIR")).join(name);
-    let built = Command::new("cc")
+    let mut compiler = Command::new("cc");
+    compiler
         .args(["-std=c11", "-Wall", "-Wextra", "-Werror", "-I"])
         .arg(root().join("include"))
         .arg(source)
@@ -20,14 +29,13 @@ fn build_and_run(source: &Path) -> Output {
         .arg(env!("SECONDCOOP_PLANS_ARCHIVE"))
         .arg(env!("SECONDCOOP_PLANNER_ARCHIVE"))
         .arg("-o")
-        .arg(&program)
-        .output()
-        .expect("a C compiler runs");
-    assert!(
-        built.status.success(),
-        "{}",
-        String::from_utf8_lossy(&built.stderr)
-    );
+        .arg(&program);
+    must_succeed(&mut compiler);
+    program
+}
+
+fn build_and_run(source: &Path) -> Output {
+    let program = build(source);
     Command::new(program).output().expect("the program runs")
 }
 
@@ -47,4 +55,32 @@ fn every_function_is_declared_as_it_is() {
     let output = build_and_run(&root().join("rust/tests/header.c"));
     let text = String::from_utf8_lossy(&output.stdout);
     assert!(output.status.success(), "wrong: {text}");
+}
+
+#[test]
+fn the_header_is_c99_and_cpp() {
+    for (compiler, standard) in [("cc", "c99"), ("c++", "c++98"), ("c++", "c++17")] {
+        let language = if compiler == "cc" { "c" } else { "c++" };
+        must_succeed(
+            Command::new(compiler)
+                .arg(format!("-std={standard}"))
+                .args(["-Wall", "-Wextra", "-Werror", "-pedantic", "-fsyntax-only"])
+                .arg("-include")
+                .arg(root().join("include/secondcoop.h"))
+                .args(["-x", language, "/dev/null"]),
+        );
+    }
+}
+
+/// No function goes deeper than the header says; with a third of the figures
+/// three of them do.
+#[test]
+fn the_stack_suffices() {
+    let program = build(&root().join("rust/tests/stack.c"));
+    for (part, deeper) in [("1", 0), ("3", 3)] {
+        let output = Command::new(&program).arg(part).output().expect("it runs");
+        let text = String::from_utf8_lossy(&output.stdout);
+        assert_eq!(text.lines().count(), 8, "{text}");
+        assert_eq!(output.status.code(), Some(deeper), "{text}");
+    }
 }

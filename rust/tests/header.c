@@ -1,5 +1,5 @@
-/* Each function of the header on a small case; the exit status counts the
- * cases that went wrong. */
+/* Each function and each refusal number of the header on a small case; the
+ * exit status counts the cases that went wrong. */
 #include <stdio.h>
 #include <string.h>
 
@@ -21,7 +21,7 @@ static const uint8_t plan_a[] = {4, 4, 0, 1, 1, 0, 2, 4, 1, 2, 2, 1, 3, 3};
 static void numbers(void)
 {
     static const uint8_t bytes[] = {0xC0, 0x84, 0x3D, 0xFF, 0xFF, 0xFF, 0xFF, 0x0F};
-    uint64_t figures[4];
+    uint64_t figures[SECONDCOOP_FIGURES];
     secondcoop_read_plan_number(bytes, sizeof bytes, 0, figures);
     expect("read_plan_number", figures, (const uint64_t[]){0, 0, 1000000, 3}, 4);
     secondcoop_read_plan_number(bytes, sizeof bytes, 3, figures);
@@ -39,11 +39,11 @@ static void numbers(void)
 
 static void plans(void)
 {
-    uint64_t figures[4];
+    uint64_t figures[SECONDCOOP_FIGURES];
     uint32_t tails[4], heads[4], costs[4];
     uint8_t out[14];
     secondcoop_check_plan(plan_a, sizeof plan_a, figures);
-    expect("check_plan", figures, (const uint64_t[]){0, 0, 4, 4}, 4);
+    expect("check_plan", figures, (const uint64_t[]){SECONDCOOP_NOT_REFUSED, 0, 4, 4}, 4);
     secondcoop_check_plan(plan_a, 13, figures);
     expect("check_plan refuses", figures, (const uint64_t[]){1, 13, 0, 0}, 4);
     secondcoop_read_plan(plan_a, sizeof plan_a, tails, 3, heads, 4, costs, 4, figures);
@@ -64,7 +64,7 @@ static void planner(void)
     static const uint8_t plan[] = {2, 0};
     uint32_t route[2] = {7, 7}, log[1] = {7}, work[11];
     const uint32_t none = SECONDCOOP_NONE;
-    uint64_t figures[8];
+    uint64_t figures[SECONDCOOP_PLAN_FIGURES];
     secondcoop_plan(plan, sizeof plan, 0, 1, anchor, 2, guides, 2, 1, guides, 0, 9,
                     route, 2, log, 1, work, 11, figures);
     expect("plan", figures, (const uint64_t[]){SECONDCOOP_NO_ROUTE, 0, 0, 0, 0, 0, 1, 0}, 8);
@@ -97,11 +97,74 @@ static void text(void)
         wrong++;
 }
 
+_Static_assert(SECONDCOOP_PLAN_BYTES(4) == 42, "plan bytes");
+_Static_assert(SECONDCOOP_ROUTE_WORDS(2 + 2) == 4, "route words");
+_Static_assert(SECONDCOOP_WORK_WORDS(2 + 2, 2 + 3) == 31, "work words");
+_Static_assert(SECONDCOOP_TURNS(2 + 2, 2 + 1) == 24, "turns");
+
+/* A plan that is refused with a number at a position. */
+static void refused_plan(const char *name, const uint8_t *bytes, size_t length,
+                         uint64_t number, uint64_t position)
+{
+    uint64_t figures[SECONDCOOP_FIGURES];
+    secondcoop_check_plan(bytes, length, figures);
+    expect(name, figures, (const uint64_t[]){number, position, 0, 0}, 4);
+}
+
+static void plan_refusals(void)
+{
+#define REFUSED(number, position, ...) \
+    refused_plan(#number, (const uint8_t[]){__VA_ARGS__}, \
+                 sizeof (const uint8_t[]){__VA_ARGS__}, number, position)
+    REFUSED(SECONDCOOP_BAD_NUMBER, 1, 4, 0x80, 0);
+    REFUSED(SECONDCOOP_BAD_PLACE_COUNT, 0, 0, 0);
+    REFUSED(SECONDCOOP_BAD_LANE_COUNT, 1, 4, 0x81, 0x80, 0x02);
+    REFUSED(SECONDCOOP_NOT_A_PLACE, 3, 4, 1, 0, 4, 1);
+    REFUSED(SECONDCOOP_BAD_COST, 4, 4, 1, 0, 1, 0xC1, 0x84, 0x3D);
+    REFUSED(SECONDCOOP_BAD_LANE_ORDER, 6, 4, 2, 0, 1, 1, 0, 1, 1);
+    REFUSED(SECONDCOOP_BYTES_LEFT_OVER, 2, 4, 0, 0);
+#undef REFUSED
+}
+
+/* Job A's floor with one argument that is refused. */
+static void refused_call(const char *name, uint32_t goal, size_t anchor_length,
+                         uint32_t first, uint32_t last, uint32_t factor,
+                         size_t route_length, size_t work_length, uint64_t number)
+{
+    const uint32_t anchor[] = {first, 5, 3, last}, schedule[] = {factor, 100};
+    uint32_t route[4], log[1], work[SECONDCOOP_WORK_WORDS(4, 4)];
+    uint64_t figures[SECONDCOOP_PLAN_FIGURES];
+    secondcoop_plan(plan_a, sizeof plan_a, 0, goal, anchor, anchor_length, anchor, 0, 0,
+                    schedule, 2, 9, route, route_length, log, 1, work, work_length, figures);
+    expect(name, figures, (const uint64_t[]){SECONDCOOP_REFUSED, number, 0, 0, 0, 0, 0, 0}, 8);
+}
+
+static void call_refusals(void)
+{
+    refused_call("start or goal", 4, 4, 6, 0, 100, 4, 29, SECONDCOOP_BAD_START_OR_GOAL);
+    refused_call("tables", 3, 3, 6, 0, 100, 4, 29, SECONDCOOP_BAD_TABLES);
+    refused_call("schedule", 3, 4, 6, 0, SECONDCOOP_MIN_FACTOR - 1, 4, 29,
+                 SECONDCOOP_BAD_SCHEDULE);
+    refused_call("schedule", 3, 4, 6, 0, SECONDCOOP_MAX_FACTOR + 1, 4, 29,
+                 SECONDCOOP_BAD_SCHEDULE);
+    refused_call("route memory", 3, 4, 6, 0, 100, 3, 29, SECONDCOOP_SHORT_MEMORY);
+    refused_call("work memory", 3, 4, 6, 0, 100, 4, 28, SECONDCOOP_SHORT_MEMORY);
+    refused_call("anchor at goal", 3, 4, 6, 1, 100, 4, 29, SECONDCOOP_ANCHOR_NOT_0_AT_GOAL);
+    refused_call("anchor on lane", 3, 4, 7, 0, 100, 4, 29, SECONDCOOP_ANCHOR_BREAKS_RULE);
+    char printed[32], wanted[32];
+    const size_t length = secondcoop_bench_text(plan_a, 0, (uint8_t *)printed, sizeof printed);
+    snprintf(wanted, sizeof wanted, "refused %d at 0\n", SECONDCOOP_NOT_A_JOB);
+    if (length != strlen(wanted) || memcmp(printed, wanted, length) != 0)
+        wrong++;
+}
+
 int main(void)
 {
     numbers();
     plans();
     planner();
     text();
+    plan_refusals();
+    call_refusals();
     return wrong;
 }

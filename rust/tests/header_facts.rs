@@ -1,0 +1,229 @@
+//! What the C header says beside its declarations: its numbers, the turns
+//! that suffice, a table of zeros, alignment, threads, the sizes of plans and
+//! texts. The stack is measured in `c_programs`.
+
+use std::collections::BTreeMap;
+use std::fs;
+use std::path::Path;
+use std::thread;
+
+use secondcoop_tests::bench_text::{BENCH_LOG, MOST_BENCH_VERTICES};
+use secondcoop_tests::compare::Case;
+use secondcoop_tests::ffi;
+use secondcoop_tests::generate;
+use secondcoop_tests::jobs::{self, Job};
+use secondcoop_tests::planner::{self, Answer, Memory, HOUSE_SCHEDULE};
+use secondcoop_tests::planners::{self, Library, SecondPlanner};
+use secondcoop_tests::reference::{MOST_COST, MOST_EDGES, MOST_VERTICES};
+
+fn read(path: &str) -> String {
+    let path = Path::new(env!("CARGO_MANIFEST_DIR")).join("..").join(path);
+    fs::read_to_string(&path).unwrap_or_else(|error| panic!("{}: {error}", path.display()))
+}
+
+/// The header's plain numbers: macros without parameters and enumerators.
+fn numbers() -> BTreeMap<String, u64> {
+    let mut numbers = BTreeMap::new();
+    for line in read("include/secondcoop.h").lines() {
+        let words: Vec<&str> = line.split_whitespace().collect();
+        let (name, number) = match words[..] {
+            ["#define", name, number] => (name, number),
+            [name, "=", number] => (name, number.trim_end_matches(',')),
+            _ => continue,
+        };
+        let digits = number.trim_start_matches("UINT32_C(").trim_end_matches(')');
+        if let (Some(name), Ok(number)) = (name.strip_prefix("SECONDCOOP_"), digits.parse()) {
+            assert_eq!(numbers.insert(name.to_string(), number), None, "{name}");
+        }
+    }
+    numbers
+}
+
+#[test]
+fn numbers_are_those_of_the_second_planner() {
+    let header = numbers();
+    let version = env!("CARGO_PKG_VERSION_MAJOR").parse().expect("a number");
+    for (name, number) in [
+        ("VERSION", version),
+        ("MAX_PLACES", u64::from(MOST_VERTICES)),
+        ("MAX_LANES", u64::from(MOST_EDGES)),
+        ("MAX_COST", u64::from(MOST_COST)),
+        ("HOUSE_ROUNDS", HOUSE_SCHEDULE.len() as u64 / 2),
+        ("NONE", u64::from(planner::NONE)),
+        ("FIGURES", ffi::Figures::default().len() as u64),
+        ("PLAN_FIGURES", planner::Figures::default().len() as u64),
+        ("ROUTE", 0),
+        ("NO_ROUTE", 1),
+        ("UNFINISHED", 2),
+        ("REFUSED", 3),
+    ] {
+        assert_eq!(header.get(name), Some(&number), "{name}");
+    }
+}
+
+/// What the limits let pass, and what is one more is refused.
+#[test]
+fn limits_of_a_call_are_exact() {
+    let header = numbers();
+    let number = |name: &str| header[name] as u32;
+    let refusal = |guides: u32, schedule: Vec<u32>| {
+        let plan = generate::Plan {
+            vertices: 1,
+            tails: vec![],
+            heads: vec![],
+            costs: vec![],
+        };
+        let sheets = vec![0; guides as usize];
+        let job = Job::new(&plan, 0, 0, vec![0], sheets, guides, schedule, 9);
+        match planners::run(&Library, &job, 0).answer() {
+            Answer::Refused { number, .. } => number,
+            _ => 0,
+        }
+    };
+    let (guides, rounds) = (number("MAX_GUIDES"), number("MAX_ROUNDS") as usize);
+    assert_eq!([guides, guides + 1].map(|n| refusal(n, vec![])), [0, 9]);
+    let schedules = [rounds, rounds + 1].map(|n| refusal(0, vec![100; 2 * n]));
+    assert_eq!(schedules, [0, 10]);
+    let (least, most) = (number("MIN_FACTOR"), number("MAX_FACTOR"));
+    let factors = [least - 1, least, most, most + 1].map(|n| refusal(0, vec![n; 2]));
+    assert_eq!(factors, [10, 0, 0, 10]);
+}
+
+/// 2·V turns for the first round, 2·V times the rounds for all.
+#[test]
+fn turns_that_suffice() {
+    let (mut cut, mut all) = (0, 0);
+    jobs::valid_jobs(51, 2_000, &mut |plan, job| {
+        let mut job = job.clone();
+        let answer = planners::run(&Library, &job, 0).answer();
+        cut += u32::from(matches!(answer, Answer::Unfinished { .. }));
+        let rounds = match job.schedule.len() as u32 / 2 {
+            0 => HOUSE_SCHEDULE.len() as u32 / 2,
+            rounds => rounds,
+        };
+        job.budget = 2 * plan.vertices;
+        let answer = planners::run(&Library, &job, 0).answer();
+        assert!(!matches!(
+            answer,
+            Answer::Unfinished { .. } | Answer::Refused { .. }
+        ));
+        job.budget *= rounds;
+        match planners::run(&Library, &job, 0).answer() {
+            Answer::NoRoute { turns } => assert!(turns <= 2 * plan.vertices),
+            Answer::Route {
+                rounds: finished,
+                turns,
+                ..
+            } => {
+                assert_eq!(finished, rounds);
+                assert!(turns <= job.budget);
+                all += 1;
+            }
+            answer => panic!("{answer:?}"),
+        }
+    });
+    // With allowances of their own many of these jobs end unfinished.
+    assert!(cut > 1_000 && all > 1_000, "{cut} unfinished, {all} routes");
+}
+
+#[test]
+fn a_table_of_zeros_passes() {
+    let mut count = 0;
+    jobs::valid_jobs(52, 2_000, &mut |plan, job| {
+        let mut job = job.clone();
+        job.anchor = vec![0; plan.vertices as usize];
+        let answer = planners::run(&Library, &job, 0).answer();
+        assert!(!matches!(answer, Answer::Refused { .. }), "{answer:?}");
+        count += 1;
+    });
+    assert!(count > 2_000);
+}
+
+/// A list at every address that its elements' alignment permits.
+#[test]
+fn every_alignment_will_do() {
+    let mut checked = 0;
+    jobs::valid_jobs(53, 60, &mut |_, job| {
+        let known = planners::run(&SecondPlanner, job, 0).figures;
+        for shift in 0..8 {
+            let mut bytes = vec![0; shift];
+            bytes.extend(&job.bytes);
+            let shifted = |list: &[u32]| [vec![0; shift], list.to_vec()].concat();
+            let lists = [&job.anchor, &job.guides, &job.schedule].map(|list| shifted(list));
+            let lent = |room: usize| vec![0; room + shift];
+            let (mut route, mut log) = (lent(job.route_room), lent(job.log_room));
+            let mut work = lent(job.work_room);
+            let request = planner::Request {
+                bytes: &bytes[shift..],
+                anchor: &lists[0][shift..],
+                guides: &lists[1][shift..],
+                schedule: &lists[2][shift..],
+                ..job.request()
+            };
+            let memory = Memory {
+                route: &mut route[shift..],
+                log: &mut log[shift..],
+                work: &mut work[shift..],
+            };
+            assert_eq!(ffi::plan(&request, memory), known);
+            checked += 1;
+        }
+    });
+    assert!(checked > 400);
+}
+
+/// Calls in several threads at once give what they give alone.
+#[test]
+fn several_threads_may_call() {
+    let mut shared: Vec<Job> = Vec::new();
+    jobs::valid_jobs(54, 300, &mut |_, job| shared.push(job.clone()));
+    let alone: Vec<_> = shared
+        .iter()
+        .map(|job| planners::run(&Library, job, 0))
+        .collect();
+    thread::scope(|scope| {
+        for _ in 0..8 {
+            scope.spawn(|| {
+                for (job, outcome) in shared.iter().zip(&alone) {
+                    assert_eq!(planners::run(&Library, job, 0), *outcome);
+                }
+            });
+        }
+    });
+}
+
+/// 6 + 9·M bytes are enough for every plan.
+#[test]
+fn plan_bytes_are_enough() {
+    let mut lanes = 0;
+    let mut check = |case: Case, _: Option<ffi::Figures>| {
+        if let Case::CheckPlan { bytes } = case {
+            if let [0, _, _, edges] = ffi::check_plan(&bytes) {
+                assert!(bytes.len() as u64 <= 6 + 9 * edges);
+                lanes = lanes.max(edges);
+            }
+        }
+    };
+    generate::valid_plans(55, 1, &mut check);
+    generate::large_plans(56, &mut check);
+    assert_eq!(lanes, u64::from(MOST_EDGES));
+}
+
+/// The longest text is the one that is proved: 35 bytes for each log word,
+/// a route line and an end line; and the bench program has room for it.
+#[test]
+fn the_longest_text_is_the_proved_one() {
+    let longest = numbers()["MAX_TEXT"] as usize;
+    let spec = read("crates/job/specs/Texts.antt");
+    assert!(spec.contains("maxText = logSize * 35 + (6 + routeSize * 11) + 112\n"));
+    assert!(spec.contains("few : r ≤ maxText\n"));
+    let sizes = read("crates/job/specs/Asked.antt");
+    assert!(sizes.contains(&format!("logSize = {BENCH_LOG}\n")));
+    assert!(sizes.contains("routeSize = maxJobVertices\n"));
+    assert_eq!(
+        BENCH_LOG * 35 + (6 + MOST_BENCH_VERTICES * 11) + 112,
+        longest
+    );
+    let program = read("crates/bench/src/main.rt");
+    assert!(program.contains(&format!("const TEXT: usize = {longest};\n")));
+}
