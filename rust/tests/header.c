@@ -58,6 +58,32 @@ static void plans(void)
     expect("write_plan refuses", figures, (const uint64_t[]){3, 0, 0, 0}, 4);
 }
 
+/* Each figure by its name. */
+static void names(void)
+{
+    static const uint8_t plan[] = {3, 1, 0, 2, 5};
+    static const uint32_t anchor[3] = {0, 0, 0}, schedule[] = {300, 200};
+    uint64_t figures[SECONDCOOP_PLAN_FIGURES];
+    uint32_t route[3], log[1], work[SECONDCOOP_WORK_WORDS(3, 1)];
+    secondcoop_check_plan(plan, sizeof plan, figures);
+    wrong += figures[SECONDCOOP_REFUSAL] != SECONDCOOP_NOT_REFUSED;
+    wrong += figures[SECONDCOOP_FIRST] != 3 || figures[SECONDCOOP_SECOND] != 1;
+    secondcoop_check_plan(plan, 3, figures);
+    wrong += figures[SECONDCOOP_REFUSAL] != SECONDCOOP_BAD_NUMBER;
+    wrong += figures[SECONDCOOP_POSITION] != 3;
+    secondcoop_plan(plan, sizeof plan, 0, 2, anchor, 3, anchor, 0, 0, schedule, 2, 9,
+                    route, 3, log, 1, work, sizeof work / sizeof work[0], figures);
+    wrong += figures[SECONDCOOP_PLAN_ENDING] != SECONDCOOP_ROUTE;
+    wrong += figures[SECONDCOOP_PLAN_COST] != 5 || figures[SECONDCOOP_PLAN_LENGTH] != 2;
+    wrong += figures[SECONDCOOP_PLAN_ROUNDS] != 1 || figures[SECONDCOOP_PLAN_TURNS] != 1;
+    wrong += figures[SECONDCOOP_PLAN_BOUND] != 60000;
+    secondcoop_plan(plan, 4, 0, 2, anchor, 3, anchor, 0, 0, schedule, 2, 9,
+                    route, 3, log, 1, work, sizeof work / sizeof work[0], figures);
+    wrong += figures[SECONDCOOP_PLAN_ENDING] != SECONDCOOP_REFUSED;
+    wrong += figures[SECONDCOOP_PLAN_REFUSAL] != SECONDCOOP_BAD_NUMBER;
+    wrong += figures[SECONDCOOP_PLAN_POSITION] != 4;
+}
+
 static void planner(void)
 {
     static const uint32_t anchor[] = {0, 0}, guides[] = {1, 1};
@@ -162,6 +188,7 @@ int main(void)
 {
     numbers();
     plans();
+    names();
     planner();
     text();
     plan_refusals();

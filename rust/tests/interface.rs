@@ -125,7 +125,7 @@ fn exported(source: &str) -> Functions {
 
 /// The functions of a C header.
 fn declared_in_c(header: &str) -> Functions {
-    let header = without(header, "/*", "*/");
+    let header = without(header, "/*", "*/").replace("\\\n", " ");
     let lines = header.lines().filter(|line| !line.starts_with('#'));
     let header = lines.collect::<Vec<_>>().join(" ");
     let mut functions = Functions::new();
@@ -294,6 +294,26 @@ fn symbols(archive: &str) -> Vec<(char, String)> {
         }
     };
     text.lines().filter_map(symbol).collect()
+}
+
+/// A figures list has as many numbers as the header's macro says.
+#[test]
+fn figures_are_as_many_as_the_header_says() {
+    let header = read("include/secondcoop.h");
+    for (name, macro_name, functions) in [
+        ("ffi_numbers", "SECONDCOOP_FIGURES", 3),
+        ("ffi_plans", "SECONDCOOP_FIGURES", 3),
+        ("ffi_planner", "SECONDCOOP_PLAN_FIGURES", 1),
+    ] {
+        let line = format!("#define {macro_name} ");
+        let count = header
+            .split_once(&line)
+            .and_then(|(_, text)| text.split('\n').next());
+        let source = read(&format!("crates/{name}/src/lib.rt"));
+        let figures = format!("figures: &mut [u64; {}]", count.expect("a macro"));
+        assert_eq!(source.matches(&figures).count(), functions, "{name}");
+        assert_eq!(source.matches("figures: ").count(), functions, "{name}");
+    }
 }
 
 /// Each library exports the functions of its crate, needs `memset` at most,
