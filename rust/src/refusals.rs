@@ -161,21 +161,8 @@ impl Remarks {
             Taker::Call if job.tables.lines().is_none() => return self.no_tables(job),
             Taker::Call => {}
         }
-        let plan = match (&job.plan, job.plan.lines()) {
-            (TextPlan::Lines(lines), _) => {
-                self.plan(lines);
-                lines.clone()
-            }
-            (TextPlan::Bytes(bytes), lines) => {
-                if let Err(refusal) = reference::check_plan(&bytes.says) {
-                    let words = refusal_words(refusal.number).unwrap_or("");
-                    let at = refusal.position;
-                    let words = format!("at byte {at} of the plan, counted from 0: {words}");
-                    self.add(bytes.number, refusal.number, words);
-                    return;
-                }
-                lines.expect("a valid plan has lines")
-            }
+        let Some(plan) = self.plan(&job.plan) else {
+            return;
         };
         match taker {
             Taker::Bench => {
@@ -194,6 +181,23 @@ impl Remarks {
         self.anchor(job, &plan);
     }
 
+    /// The plan; its lines, unless its bytes are refused.
+    fn plan(&mut self, plan: &TextPlan) -> Option<PlanLines> {
+        match plan {
+            TextPlan::Lines(lines) => self.lanes(lines),
+            TextPlan::Bytes(bytes) => {
+                if let Err(refusal) = reference::check_plan(&bytes.says) {
+                    let words = refusal_words(refusal.number).unwrap_or("");
+                    let at = refusal.position;
+                    let words = format!("at byte {at} of the plan, counted from 0: {words}");
+                    self.add(bytes.number, refusal.number, words);
+                    return None;
+                }
+            }
+        }
+        plan.lines()
+    }
+
     fn most_rounds(&mut self, job: &JobLines, refusal: u32) {
         if let Some(round) = job.rounds.get(16) {
             let words = format!("there are {} rounds, over 16", job.rounds.len());
@@ -209,7 +213,7 @@ impl Remarks {
     }
 
     /// Places and lanes, row by row of the paper's table.
-    fn plan(&mut self, plan: &PlanLines) {
+    fn lanes(&mut self, plan: &PlanLines) {
         let places = plan.places.says;
         if !has_places(plan) {
             let words = format!("a plan has 1 to {MOST_VERTICES} places, not {places}");

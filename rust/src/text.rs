@@ -387,80 +387,106 @@ impl TextPlan {
     }
 }
 
-impl TextJob {
-    /// Reads a text; what bytes cannot say is told with its line.
-    pub fn parse(text: &str) -> Result<TextJob, String> {
-        let mut lines = PlanParts::default();
-        let (mut plan, mut tables, mut whole) = (None, None, None);
-        let (mut start, mut goal, mut allowance) = (None, None, None);
-        let mut rounds = Vec::new();
-        let (mut anchor, mut guides, mut count) = (None, Vec::new(), None);
-        for words in Words::of_text(text) {
-            match words.word {
-                "plan" => words.more(&mut plan)?,
-                "start" => words.once(&mut start, words.one()?)?,
-                "goal" => words.once(&mut goal, words.one()?)?,
-                "allowance" => words.once(&mut allowance, words.one()?)?,
-                "round" => rounds.push(words.exactly()?),
-                "anchor" => words.once(&mut anchor, words.says(words.numbers()?))?,
-                "guide" => guides.push(words.says(words.numbers()?)),
-                "guides" => words.once(&mut count, words.one()?)?,
-                "tables" => words.more(&mut tables)?,
-                "bytes" => words.more(&mut whole)?,
-                _ if lines.take(&words)? => {}
-                word => {
-                    return words.wrong(format!(
-                        "{} begins no line; a line is places, lane, start, goal, allowance, \
-                         round, anchor or guide",
-                        quoted(word)
-                    ))
-                }
-            }
-            // Bytes and the lines that they stand for do not stand together.
-            let plan_lines = lines.places.is_some() || !lines.lanes.is_empty();
-            let table_lines = anchor.is_some() || !guides.is_empty();
-            let table_bytes = count.is_some() || tables.is_some();
-            let others = [&start, &goal, &allowance];
-            let other_lines = !rounds.is_empty() || others.iter().any(|line| line.is_some());
-            if plan.is_some() && plan_lines {
-                return words.wrong("'plan' stands in place of 'places' and 'lane'");
-            }
-            if table_bytes && table_lines {
-                return words.wrong("'guides' and 'tables' stand in place of 'anchor' and 'guide'");
-            }
-            let any = plan.is_some() || plan_lines || table_bytes || table_lines || other_lines;
-            if whole.is_some() && any {
-                return words.wrong("'bytes' stands in place of all other lines");
+/// A job's lines while a text is read.
+#[derive(Default)]
+struct JobParts {
+    lines: PlanParts,
+    plan: Option<Line<Vec<u8>>>,
+    start: Option<Line<u32>>,
+    goal: Option<Line<u32>>,
+    allowance: Option<Line<u32>>,
+    rounds: Vec<Line<[u32; 2]>>,
+    anchor: Option<Line<Vec<u32>>>,
+    guides: Vec<Line<Vec<u32>>>,
+    count: Option<Line<u32>>,
+    tables: Option<Line<Vec<u8>>>,
+    whole: Option<Line<Vec<u8>>>,
+}
+
+impl JobParts {
+    fn take(&mut self, words: &Words) -> Result<(), String> {
+        match words.word {
+            "plan" => words.more(&mut self.plan)?,
+            "start" => words.once(&mut self.start, words.one()?)?,
+            "goal" => words.once(&mut self.goal, words.one()?)?,
+            "allowance" => words.once(&mut self.allowance, words.one()?)?,
+            "round" => self.rounds.push(words.exactly()?),
+            "anchor" => words.once(&mut self.anchor, words.says(words.numbers()?))?,
+            "guide" => self.guides.push(words.says(words.numbers()?)),
+            "guides" => words.once(&mut self.count, words.one()?)?,
+            "tables" => words.more(&mut self.tables)?,
+            "bytes" => words.more(&mut self.whole)?,
+            _ if self.lines.take(words)? => {}
+            word => {
+                return words.wrong(format!(
+                    "{} begins no line; a line is places, lane, start, goal, allowance, round, \
+                     anchor or guide",
+                    quoted(word)
+                ))
             }
         }
-        if let Some(whole) = whole {
+        match self.clash() {
+            Some(clash) => words.wrong(clash),
+            None => Ok(()),
+        }
+    }
+
+    /// Bytes and the lines that they stand for do not stand together.
+    fn clash(&self) -> Option<&'static str> {
+        let plan_lines = self.lines.places.is_some() || !self.lines.lanes.is_empty();
+        let table_lines = self.anchor.is_some() || !self.guides.is_empty();
+        let table_bytes = self.count.is_some() || self.tables.is_some();
+        let others = [&self.start, &self.goal, &self.allowance];
+        let other_lines = !self.rounds.is_empty() || others.iter().any(|line| line.is_some());
+        let plan = self.plan.is_some();
+        if plan && plan_lines {
+            return Some("'plan' stands in place of 'places' and 'lane'");
+        }
+        if table_bytes && table_lines {
+            return Some("'guides' and 'tables' stand in place of 'anchor' and 'guide'");
+        }
+        let any = plan || plan_lines || table_bytes || table_lines || other_lines;
+        (self.whole.is_some() && any).then_some("'bytes' stands in place of all other lines")
+    }
+
+    fn finish(self) -> Result<TextJob, String> {
+        if let Some(whole) = self.whole {
             return Ok(TextJob::Bytes(whole.says));
         }
-        let plan = match plan {
+        let plan = match self.plan {
             Some(bytes) => TextPlan::Bytes(bytes),
-            None => TextPlan::Lines(lines.finish()?),
+            None => TextPlan::Lines(self.lines.finish()?),
         };
-        let tables = match (tables, count) {
+        let tables = match (self.tables, self.count) {
             (Some(bytes), Some(guides)) => TextTables::Bytes { guides, bytes },
             (Some(_), None) => return Err(missing("guides COUNT")),
             (None, Some(_)) => return Err(missing("tables BYTES")),
-            (None, None) => {
-                let anchor = anchor.ok_or(missing("anchor NUMBERS"))?;
-                let tables = TextTables::Lines { anchor, guides };
-                tables.has_one_length(plan.places())?;
-                tables
-            }
+            (None, None) => TextTables::Lines {
+                anchor: self.anchor.ok_or(missing("anchor NUMBERS"))?,
+                guides: self.guides,
+            },
         };
-        let job = JobLines {
+        tables.has_one_length(plan.places())?;
+        plan.bytes()?;
+        Ok(TextJob::Lines(JobLines {
             plan,
-            start: start.ok_or(missing("start PLACE"))?,
-            goal: goal.ok_or(missing("goal PLACE"))?,
-            allowance: allowance.ok_or(missing("allowance TURNS"))?,
-            rounds,
+            start: self.start.ok_or(missing("start PLACE"))?,
+            goal: self.goal.ok_or(missing("goal PLACE"))?,
+            allowance: self.allowance.ok_or(missing("allowance TURNS"))?,
+            rounds: self.rounds,
             tables,
-        };
-        job.plan.bytes()?;
-        Ok(TextJob::Lines(job))
+        }))
+    }
+}
+
+impl TextJob {
+    /// Reads a text; what bytes cannot say is told with its line.
+    pub fn parse(text: &str) -> Result<TextJob, String> {
+        let mut parts = JobParts::default();
+        for words in Words::of_text(text) {
+            parts.take(&words)?;
+        }
+        parts.finish()
     }
 
     /// The job's bytes.

@@ -79,8 +79,27 @@ fn returned(text: &str) -> String {
     }
 }
 
-/// The exports of a `.rt` file: a slice is a pointer and a length, an array
-/// a pointer.
+/// A parameter of an export as C has it: a slice is a pointer and a length,
+/// an array a pointer.
+fn in_c(name: &str, kind: &str) -> Vec<(String, String)> {
+    let (pointed, constant) = match kind.strip_prefix("&mut [") {
+        Some(pointed) => (Some(pointed), ""),
+        None => (kind.strip_prefix("&["), "const "),
+    };
+    let Some(element) = pointed.and_then(|pointed| pointed.strip_suffix(']')) else {
+        return vec![(name.into(), c_number(kind).into())];
+    };
+    let pointer = |element| (name.into(), format!("{constant}{} *", c_number(element)));
+    match element.split_once("; ") {
+        Some((element, _)) => vec![pointer(element)],
+        None => vec![
+            pointer(element),
+            (format!("{name}_length"), "size_t".into()),
+        ],
+    }
+}
+
+/// The exports of a `.rt` file.
 fn exported(source: &str) -> Functions {
     let source = without(source, "//", "\n");
     let mut functions = Functions::new();
@@ -90,33 +109,15 @@ fn exported(source: &str) -> Functions {
             .and_then(|text| text.split_once('('))
             .expect("an export");
         let (list, after) = text.split_once(')').expect("parameters end");
-        let mut parameters = Vec::new();
-        for part in parts(list) {
+        let parameter = |part: &str| {
             let (name, kind) = part.split_once(": ").expect("a parameter has a type");
-            let (pointed, constant) = match kind.strip_prefix("&mut [") {
-                Some(pointed) => (Some(pointed), ""),
-                None => (kind.strip_prefix("&["), "const "),
-            };
-            let Some(element) = pointed.and_then(|pointed| pointed.strip_suffix(']')) else {
-                parameters.push((name.into(), c_number(kind).into()));
-                continue;
-            };
-            let (element, array) = match element.split_once("; ") {
-                Some((element, _)) => (element, true),
-                None => (element, false),
-            };
-            let pointer = format!("{constant}{} *", c_number(element));
-            parameters.push((name.into(), pointer));
-            if !array {
-                parameters.push((format!("{name}_length"), "size_t".into()));
-            }
-        }
-        let returns = returned(after);
+            in_c(name, kind)
+        };
         functions.insert(
             name.into(),
             Function {
-                parameters,
-                returns,
+                parameters: parts(list).flat_map(parameter).collect(),
+                returns: returned(after),
             },
         );
     }
@@ -212,16 +213,25 @@ fn three_places_say_the_same() {
     assert_eq!(differences(&exported, &rust), Vec::<String>::new());
 }
 
-/// Each place changed by itself is found to differ.
+/// A text with one part in place of another, once.
+fn changed(text: &str, old: &str, new: &str) -> String {
+    assert!(text.contains(old), "{old}");
+    text.replacen(old, new, 1)
+}
+
+/// Changes that must be found to differ.
+fn all_found(read: impl Fn(&str) -> Functions, text: &str, changes: &[(&str, &str)]) {
+    let whole = read(text);
+    for (old, new) in changes {
+        let other = read(&changed(text, old, new));
+        assert!(!differences(&whole, &other).is_empty(), "{old} -> {new}");
+    }
+}
+
 #[test]
-fn a_change_in_one_place_is_found() {
-    let (header, rust) = (read("include/secondcoop.h"), read("rust/src/ffi.rs"));
-    let exported = all_exported();
-    let changed = |text: &str, old: &str, new: &str| {
-        assert!(text.contains(old), "{old}");
-        text.replacen(old, new, 1)
-    };
-    for (old, new) in [
+fn a_change_in_the_header_is_found() {
+    let header = read("include/secondcoop.h");
+    let changes = [
         (
             "uint32_t start, uint32_t goal",
             "uint32_t goal, uint32_t start",
@@ -243,14 +253,14 @@ fn a_change_in_one_place_is_found() {
             "void secondcoop_plan(",
             "void secondcoop_other(int i); void secondcoop_plan(",
         ),
-    ] {
-        let header = declared_in_c(&changed(&header, old, new));
-        assert!(
-            !differences(&exported, &header).is_empty(),
-            "{old} -> {new}"
-        );
-    }
-    for (old, new) in [
+    ];
+    all_found(declared_in_c, &header, &changes);
+}
+
+#[test]
+fn a_change_in_the_rust_declarations_is_found() {
+    let source = read("rust/src/ffi.rs");
+    let changes = [
         (
             "start: u32,\n        goal: u32",
             "goal: u32,\n        start: u32",
@@ -260,13 +270,14 @@ fn a_change_in_one_place_is_found() {
         (") -> usize;", ");"),
         ("fn secondcoop_check_plan(", "fn secondcoop_check_plans("),
         ("        guide_count: u32,\n", ""),
-    ] {
-        let rust = declared_in_rust(&changed(&rust, old, new));
-        assert!(!differences(&exported, &rust).is_empty(), "{old} -> {new}");
-    }
+    ];
+    all_found(declared_in_rust, &source, &changes);
+}
+
+#[test]
+fn a_change_in_the_exports_is_found() {
     let source = read("crates/ffi_planner/src/lib.rt");
-    let planner = self::exported(&source);
-    for (old, new) in [
+    let changes = [
         (
             "    start: u32,\n    goal: u32",
             "    goal: u32,\n    start: u32",
@@ -275,10 +286,8 @@ fn a_change_in_one_place_is_found() {
         ("work: &mut [u32]", "work: &mut [u64]"),
         ("-> usize", "-> u32"),
         ("#[no_mangle]", ""),
-    ] {
-        let source = self::exported(&changed(&source, old, new));
-        assert!(!differences(&planner, &source).is_empty(), "{old} -> {new}");
-    }
+    ];
+    all_found(exported, &source, &changes);
 }
 
 /// Symbols of a library by `nm`: kind and name of each.
