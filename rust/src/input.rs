@@ -1,9 +1,10 @@
 //! What a tool is handed: a file or standard input, as lines of text, as
 //! hexadecimal pairs or as bytes.
 
+use std::ffi::OsStr;
 use std::io::{self, IsTerminal as _, Read as _};
 
-use crate::text::{means_pairs, pairs};
+use crate::text::{begins, pairs, Begins};
 
 /// The mark with which some editors begin a text.
 const BYTE_ORDER_MARK: &[u8] = b"\xEF\xBB\xBF";
@@ -11,7 +12,7 @@ const BYTE_ORDER_MARK: &[u8] = b"\xEF\xBB\xBF";
 /// What stands in a file.
 #[derive(Clone, Debug, PartialEq, Eq)]
 pub enum Input {
-    /// Lines of the text form.
+    /// Lines of the text form, each with a newline at its end.
     Lines(String),
     /// Bytes that stand there as hexadecimal pairs.
     Pairs(Vec<u8>),
@@ -22,23 +23,25 @@ pub enum Input {
 impl Input {
     /// Reads a file; `-`, or no name where nobody types, is standard input.
     /// A fault is told with the file's name.
-    pub fn read(path: Option<&str>) -> Result<Input, String> {
-        let name = name_of(path);
-        let contents = match path {
-            None if io::stdin().is_terminal() => {
-                return Err("no FILE is named; --help says what is read".into())
+    pub fn read(path: Option<&OsStr>) -> Result<Input, String> {
+        let contents = match path.filter(|&path| path != "-") {
+            Some(path) => std::fs::read(path),
+            None if path.is_none() && io::stdin().is_terminal() => {
+                return Err("no FILE is named; - is standard input".into());
             }
-            None | Some("-") => {
+            None => {
                 let mut contents = Vec::new();
                 io::stdin().read_to_end(&mut contents).map(|_| contents)
             }
-            Some(path) => std::fs::read(path),
         };
+        let name = name_of(path);
         let contents = contents.map_err(|error| format!("{name}: {error}"))?;
         Input::of(&contents).map_err(|wrong| format!("{name}: {wrong}"))
     }
 
-    /// The form of a file's contents.
+    /// The form of a file's contents. A text begins with a word that begins
+    /// a line, with a hexadecimal pair or with a comment; what does not, and
+    /// is not all plain characters, is bytes.
     pub fn of(contents: &[u8]) -> Result<Input, String> {
         let text = contents.strip_prefix(BYTE_ORDER_MARK).unwrap_or(contents);
         if text.is_empty() {
@@ -47,26 +50,34 @@ impl Input {
         if is_utf16(contents) {
             return Err("this text is in UTF-16; it is read in UTF-8".into());
         }
-        // A job's bytes have a guide count from 0 to 8, and no text has such
-        // a character.
-        if !text.iter().all(|&byte| is_plain(byte)) {
-            return Ok(Input::Bytes(contents.to_vec()));
-        }
-        let text = match std::str::from_utf8(text) {
-            Ok(text) => text.to_string(),
+        // Some editors end a text with this character.
+        let text = text.strip_suffix(b"\x1A").unwrap_or(text);
+        let (utf8, plain) = (
+            std::str::from_utf8(text),
+            text.iter().copied().all(is_plain),
+        );
+        let lines = match utf8 {
+            Ok(text) => text.into(),
             // A text in Latin-1, each byte a character.
-            Err(_) => text.iter().copied().map(char::from).collect(),
+            Err(_) => text.iter().copied().map(char::from).collect::<String>(),
         };
-        match means_pairs(&text) {
-            true => pairs(&text).map(Input::Pairs),
-            false => Ok(Input::Lines(text)),
+        let lines = lines.replace("\r\n", "\n").replace('\r', "\n");
+        match begins(&lines) {
+            Begins::Neither(wrong) if plain && utf8.is_ok() => Err(wrong),
+            Begins::Pair if plain => pairs(&lines).map(Input::Pairs),
+            Begins::Line | Begins::Nothing if plain => Ok(Input::Lines(lines)),
+            Begins::Line => Err(stray(&lines)),
+            _ => Ok(Input::Bytes(contents.to_vec())),
         }
     }
 }
 
 /// What a file is called in messages.
-pub fn name_of(path: Option<&str>) -> &str {
-    path.filter(|&path| path != "-").unwrap_or("standard input")
+pub fn name_of(path: Option<&OsStr>) -> String {
+    match path {
+        Some(path) if path != "-" => path.to_string_lossy().into_owned(),
+        _ => "standard input".into(),
+    }
 }
 
 /// White space, and all that is no control character.
@@ -74,12 +85,26 @@ fn is_plain(byte: u8) -> bool {
     matches!(byte, b'\t'..=b'\r') || !byte.is_ascii_control()
 }
 
+/// The first character that no text has.
+fn stray(lines: &str) -> String {
+    let is_stray = |letter: char| u8::try_from(letter).is_ok_and(|byte| !is_plain(byte));
+    for (number, line) in (1..).zip(lines.lines()) {
+        if let Some(letter) = line.chars().find(|&letter| is_stray(letter)) {
+            let code = u32::from(letter);
+            return format!("line {number}: the control character {code:02X} stands in no text");
+        }
+    }
+    "a control character stands in no text".into()
+}
+
 /// Whether a text is in UTF-16: it begins with that form's mark and a plain
-/// character. No job begins so: its plan would have no places, or a length
-/// that is not in its shortest form.
+/// character, or with two letters between zeros. No job begins so: its plan
+/// would have no places, or a length that is not in its shortest form.
 fn is_utf16(contents: &[u8]) -> bool {
+    let letter = |byte: u8| byte.is_ascii_alphabetic() || byte == b'#' || byte == b' ';
     match *contents {
         [0xFF, 0xFE, first, 0, ..] | [0xFE, 0xFF, 0, first, ..] => is_plain(first),
+        [first, 0, second, 0, ..] | [0, first, 0, second, ..] => letter(first) && letter(second),
         _ => false,
     }
 }

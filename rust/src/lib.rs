@@ -19,3 +19,5 @@ pub mod reference;
 pub mod refusals;
 pub mod run;
 pub mod text;
+pub mod tool;
+pub mod words;

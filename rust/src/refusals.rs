@@ -4,18 +4,16 @@
 use std::fmt;
 
 use crate::bench_text::{MOST_BENCH_EDGES, MOST_BENCH_VERTICES, MOST_JOB_BYTES};
-use crate::reference::{self, MOST_COST, MOST_EDGES, MOST_VERTICES};
-use crate::text::{count, table_name, JobLines, Line, PlanLines, TextJob, TextPlan};
+use crate::reference::{self, MOST_COST, MOST_EDGES};
+use crate::text::{JobLines, Line, PlanLines, TextJob, TextPlan, TextTables};
+use crate::words::{count, not_a_place, too_dear, too_many_lanes, wrong_place_count};
 
 /// A refusal in words.
 pub fn refusal_words(number: u32) -> Option<&'static str> {
     Some(match number {
         1 => "a plan number is cut off, longer than three groups or not in its shortest form",
         2 => "the number of places is not from 1 to 4096",
-        3 => {
-            "there are more than 32768 lanes, or the lists of a plan to be written have unequal \
-             lengths"
-        }
+        3 => "there are more than 32768 lanes",
         4 => "a tail or head is not a place",
         5 => "a cost is above 1000000",
         6 => "the lanes do not rise by tail, and under one tail by head",
@@ -47,9 +45,13 @@ pub fn position_words(number: u32) -> &'static str {
             "the position is a byte, counted from 0; where a number was to be written, it is \
              always 0"
         }
-        2 | 3 => {
+        2 => {
             "the position is a byte of the plan, counted from 0; where a plan was to be written, \
              it is always 0"
+        }
+        3 => {
+            "the position is a byte of the plan, counted from 0; where a plan was to be written, \
+             it is always 0, and lists of unequal lengths are refused so too"
         }
         4..=6 => {
             "the position is a byte of the plan, counted from 0; where a plan was to be written, \
@@ -73,7 +75,7 @@ impl Taker {
     /// Who plans a job: the bench program, or the planner call where it has
     /// more bytes, places or lanes than the bench program takes.
     pub fn of(job: &TextJob) -> Taker {
-        let plan = job.lines().and_then(|lines| lines.plan.lines());
+        let plan = job.lines().ok().and_then(|lines| lines.plan.lines());
         let large = plan.is_some_and(|plan| {
             plan.places.says as usize > MOST_BENCH_VERTICES || plan.lanes.len() > MOST_BENCH_EDGES
         });
@@ -107,32 +109,19 @@ impl fmt::Display for Remark {
 pub fn remarks(job: &TextJob, taker: Taker) -> Vec<Remark> {
     let mut remarks = Remarks(Vec::new());
     match job.lines() {
-        Some(lines) => remarks.job(&lines, job.bytes().len(), taker),
-        None => {
-            let words = match job.bytes().len() {
-                length if length > MOST_JOB_BYTES && taker == Taker::Bench => too_long(length),
-                _ => "up to the guide count a number is missing or of bad form".into(),
-            };
-            remarks.add(0, 14, words);
-        }
+        Ok(lines) => remarks.job(&lines, job.bytes().len(), taker),
+        Err(words) => match job.bytes().len() {
+            length if length > MOST_JOB_BYTES && taker == Taker::Bench => {
+                remarks.add(0, 14, too_long(length))
+            }
+            _ => remarks.add(0, 14, words),
+        },
     }
     remarks.0
 }
 
 fn too_long(length: usize) -> String {
     format!("the job has {length} bytes, over the {MOST_JOB_BYTES} of the bench program")
-}
-
-/// Whether a plan has a count of places by which its lines can be judged.
-fn has_places(plan: &PlanLines) -> bool {
-    (1..=MOST_VERTICES).contains(&plan.places.says)
-}
-
-fn place_range(places: u32) -> String {
-    match places {
-        1 => "the only place is 0".into(),
-        _ => format!("places are 0 to {}", places - 1),
-    }
 }
 
 /// The remarks on a job, as they are found.
@@ -157,8 +146,8 @@ impl Remarks {
                 self.most_rounds(job, 14);
                 self.most_guides(job, 14);
             }
-            // Without tables there is no call.
-            Taker::Call if job.tables.lines().is_none() => return self.no_tables(job),
+            // Without the tables' numbers there is no call.
+            Taker::Call if job.tables.numbers().is_err() => return self.tables(job, None, 14),
             Taker::Call => {}
         }
         let Some(plan) = self.plan(&job.plan) else {
@@ -167,13 +156,13 @@ impl Remarks {
         match taker {
             Taker::Bench => {
                 self.bench_sizes(&plan, length);
-                self.tables(job, &plan, 14);
+                self.tables(job, Some(&plan), 14);
                 self.ends(job, &plan);
             }
             Taker::Call => {
                 self.ends(job, &plan);
                 self.most_guides(job, 9);
-                self.tables(job, &plan, 9);
+                self.tables(job, Some(&plan), 9);
                 self.most_rounds(job, 10);
             }
         }
@@ -215,22 +204,19 @@ impl Remarks {
     /// Places and lanes, row by row of the paper's table.
     fn lanes(&mut self, plan: &PlanLines) {
         let places = plan.places.says;
-        if !has_places(plan) {
-            let words = format!("a plan has 1 to {MOST_VERTICES} places, not {places}");
-            self.add(plan.places.number, 2, words);
+        if !plan.has_places() {
+            self.add(plan.places.number, 2, wrong_place_count(places));
         }
         if plan.lanes.len() > MOST_EDGES as usize {
-            let lanes = plan.lanes.len();
-            let words = format!("a plan has at most {MOST_EDGES} lanes, not {lanes}");
-            self.add(plan.lanes[MOST_EDGES as usize].number, 3, words);
+            let line = plan.lanes[MOST_EDGES as usize].number;
+            self.add(line, 3, too_many_lanes(plan.lanes.len()));
         }
         let mut before: Option<[u32; 3]> = None;
         for lane in &plan.lanes {
             let [tail, head, cost] = lane.says;
             for (end, place) in [("tail", tail), ("head", head)] {
-                if has_places(plan) && place >= places {
-                    let words = format!("{end} {place} is not a place; {}", place_range(places));
-                    self.add(lane.number, 4, words);
+                if plan.has_places() && place >= places {
+                    self.add(lane.number, 4, not_a_place(end, place, places));
                 }
             }
             if let Some([_, last, _]) = before.filter(|before| before[0] == tail) {
@@ -243,8 +229,7 @@ impl Remarks {
                 }
             }
             if cost > MOST_COST {
-                let words = format!("cost {cost} is above {MOST_COST}");
-                self.add(lane.number, 5, words);
+                self.add(lane.number, 5, too_dear(cost));
             }
             before = Some(lane.says);
         }
@@ -257,7 +242,7 @@ impl Remarks {
             return;
         }
         let places = plan.places.says;
-        if has_places(plan) && places as usize > MOST_BENCH_VERTICES {
+        if plan.has_places() && places as usize > MOST_BENCH_VERTICES {
             let words =
                 format!("the bench program takes {MOST_BENCH_VERTICES} places, not {places}");
             self.add(plan.places.number, 14, words);
@@ -272,43 +257,51 @@ impl Remarks {
         }
     }
 
-    fn no_tables(&mut self, job: &JobLines) {
-        let words = "the numbers are not those of whole tables".into();
-        self.add(job.tables.line(), 14, words);
-    }
-
-    /// The tables' lengths.
-    fn tables(&mut self, job: &JobLines, plan: &PlanLines, refusal: u32) {
-        let Some(tables) = job.tables.lines() else {
-            if job.tables.guide_count().says <= 8 {
-                self.no_tables(job);
-            }
+    /// The tables: whether they are numbers, and one for each place. Tables
+    /// as lines have one length.
+    fn tables(&mut self, job: &JobLines, plan: Option<&PlanLines>, refusal: u32) {
+        let (line, guides) = (job.tables.line(), job.tables.guide_count().says);
+        let numbers = match job.tables.numbers() {
+            Ok(numbers) => numbers.len(),
+            Err(words) => return self.add(line, 14, format!("in the tables {words}")),
+        };
+        let Some(plan) = plan.filter(|plan| plan.has_places()) else {
             return;
         };
-        if !has_places(plan) {
+        let places = plan.places.says as usize;
+        if numbers == (guides + 1) * places {
             return;
         }
-        for (index, table) in tables.iter().enumerate() {
-            let (numbers, places) = (table.says.len(), plan.places.says as usize);
-            if numbers != places {
-                let words = format!(
-                    "{} has {}, and the plan has {}",
-                    table_name(index),
-                    count(numbers, "number"),
-                    count(places, "place")
-                );
-                self.add(table.number, refusal, words);
+        let there = count(places, "place");
+        let words = match &job.tables {
+            TextTables::Lines { anchor, .. } => {
+                let numbers = count(anchor.says.len(), "number");
+                let tables = match guides {
+                    0 => format!("the anchor table has {numbers}"),
+                    _ => format!(
+                        "the anchor table and {} have {numbers} each",
+                        count(guides, "guide")
+                    ),
+                };
+                format!("{tables}, and the plan has {there}")
             }
-        }
+            // A wrong count of guides is told by itself.
+            TextTables::Bytes { .. } if guides > 8 => return,
+            TextTables::Bytes { .. } => format!(
+                "the tables have {}; an anchor table and {} for {there} take {}",
+                count(numbers, "number"),
+                count(guides, "guide"),
+                (guides + 1) * places
+            ),
+        };
+        self.add(line, refusal, words);
     }
 
     fn ends(&mut self, job: &JobLines, plan: &PlanLines) {
         let places = plan.places.says;
         for (name, line) in [("start", &job.start), ("goal", &job.goal)] {
-            if has_places(plan) && line.says >= places {
-                let place = line.says;
-                let words = format!("{name} {place} is not a place; {}", place_range(places));
-                self.add(line.number, 8, words);
+            if plan.has_places() && line.says >= places {
+                self.add(line.number, 8, not_a_place(name, line.says, places));
             }
         }
     }
@@ -336,19 +329,20 @@ impl Remarks {
         }
     }
 
-    /// The anchor table at the goal and on the lanes, where it has a number
-    /// for each place.
+    /// The anchor table at the goal and on the lanes, where the tables are
+    /// whole.
     fn anchor(&mut self, job: &JobLines, plan: &PlanLines) {
-        let tables = job.tables.lines().unwrap_or_default();
-        let fits = |table: &&Line<Vec<u32>>| table.says.len() == plan.places.says as usize;
-        let Some(anchor) = tables.first().filter(fits) else {
+        let numbers = job.tables.numbers().unwrap_or_default();
+        let places = plan.places.says as usize;
+        if numbers.len() != (job.tables.guide_count().says + 1) * places {
             return;
-        };
-        let number_at = |place: u32| anchor.says.get(place as usize).copied();
+        }
+        let anchor = &numbers[..places];
+        let number_at = |place: u32| anchor.get(place as usize).copied();
         if let Some(number) = number_at(job.goal.says).filter(|&number| number > 0) {
             let goal = job.goal.says;
             let words = format!("the anchor table has {number} at the goal {goal}, not 0");
-            self.add(anchor.number, 12, words);
+            self.add(job.tables.line(), 12, words);
         }
         for (index, lane) in plan.lanes.iter().enumerate() {
             let [tail, head, cost] = lane.says;

@@ -26,21 +26,22 @@ fn bench(planner: &dyn Planner, bytes: &[u8]) -> String {
 
 /// The planner call that a job asks, with memory enough for all that it can
 /// give: route and work memory for the plan, and a log for 2·V turns in each
-/// round. Bytes without the numbers of a call are refused as the bench
-/// program does it.
+/// round. The numbers of the tables are the anchor table's first, as many as
+/// there are places. Bytes without the numbers of a call are refused as the
+/// bench program does it.
 pub fn call(planner: &dyn Planner, job: &TextJob) -> String {
-    let Some(lines) = job.lines() else {
+    let Ok(lines) = job.lines() else {
         return refused(14, 0);
     };
-    let Some(tables) = lines.tables.lines() else {
+    let Ok(numbers) = lines.tables.numbers() else {
         return refused(14, 0);
     };
-    let numbers: Vec<Vec<u32>> = tables.into_iter().map(|table| table.says).collect();
     let schedule: Vec<u32> = lines.rounds.iter().flat_map(|round| round.says).collect();
     let (places, lanes) = lines.plan.lines().map_or((0, 0), |plan| {
         let places = plan.places.says.min(MOST_VERTICES) as usize;
         (places, plan.lanes.len().min(MOST_EDGES as usize))
     });
+    let (anchor, guides) = numbers.split_at(places.min(numbers.len()));
     let factors = match schedule.len() {
         0 => HOUSE_SCHEDULE.len(),
         length => length.min(32),
@@ -53,9 +54,9 @@ pub fn call(planner: &dyn Planner, job: &TextJob) -> String {
         bytes: &lines.plan.bytes().expect("a job's plan has bytes"),
         start: lines.start.says,
         goal: lines.goal.says,
-        anchor: &numbers[0],
-        guides: &numbers[1..].concat(),
-        guide_count: numbers.len() as u32 - 1,
+        anchor,
+        guides,
+        guide_count: lines.tables.guide_count().says as u32,
         schedule: &schedule,
         budget: lines.allowance.says,
     };

@@ -15,7 +15,26 @@ use std::fmt;
 use std::iter;
 
 use crate::generate::push_number;
-use crate::reference::{self, MOST_IN_THREE_GROUPS};
+use crate::reference::{self, MOST_EDGES, MOST_IN_THREE_GROUPS, MOST_VERTICES};
+use crate::words::{
+    count, not_a_place, quoted, table_name, too_dear, too_many_lanes, wrong_place_count,
+};
+
+/// The words that begin a line.
+const LINE_WORDS: [&str; 12] = [
+    "places",
+    "lane",
+    "start",
+    "goal",
+    "allowance",
+    "round",
+    "anchor",
+    "guide",
+    "plan",
+    "guides",
+    "tables",
+    "bytes",
+];
 
 /// What a line says, and its number in the text.
 #[derive(Clone, Debug, PartialEq, Eq)]
@@ -67,33 +86,6 @@ pub enum TextJob {
     Bytes(Vec<u8>),
 }
 
-/// A count with the name of what is counted.
-pub fn count(number: usize, name: &str) -> String {
-    let plural = if number == 1 { "" } else { "s" };
-    format!("{number} {name}{plural}")
-}
-
-/// What a table is called: 0 is the anchor table.
-pub fn table_name(table: usize) -> String {
-    match table {
-        0 => "the anchor table".into(),
-        guide => format!("guide {guide}"),
-    }
-}
-
-/// A word between quotes, characters that nobody sees spelt out, its first
-/// 40 if it is long.
-fn quoted(word: &str) -> String {
-    let mut letters = word.chars();
-    let begin: String = letters
-        .by_ref()
-        .take(40)
-        .flat_map(char::escape_debug)
-        .collect();
-    let more = if letters.next().is_some() { ".." } else { "" };
-    format!("'{begin}'{more}")
-}
-
 /// The words of a line that are no comment.
 fn words(line: &str) -> Vec<&str> {
     let (front, _) = line.split_once('#').unwrap_or((line, ""));
@@ -120,6 +112,18 @@ impl<'a> Words<'a> {
 
     fn wrong<T>(&self, what: impl fmt::Display) -> Result<T, String> {
         Err(format!("line {}: {what}", self.line))
+    }
+
+    fn begins_no_line<T>(&self) -> Result<T, String> {
+        let small = self.word.to_lowercase();
+        let hint = if self.word.parse::<u64>().is_ok() {
+            "a table stands on one line".into()
+        } else if LINE_WORDS.contains(&small.as_str()) {
+            format!("'{small}' does, in small letters")
+        } else {
+            format!("a line is {}", LINE_WORDS[..8].join(", "))
+        };
+        self.wrong(format!("{} begins no line; {hint}", quoted(self.word)))
     }
 
     fn says<T>(&self, says: T) -> Line<T> {
@@ -205,16 +209,33 @@ fn pair(word: &str) -> Option<u8> {
     digits.then(|| u8::from_str_radix(word, 16).ok()).flatten()
 }
 
-/// Whether a text is meant as hexadecimal pairs: its first word begins with
-/// a digit or has two characters, as no line of the text form does.
-pub fn means_pairs(text: &str) -> bool {
-    let first = Words::of_text(text).next();
-    first.is_some_and(|words| {
-        words
-            .word
-            .starts_with(|letter: char| letter.is_ascii_digit())
-            || words.word.chars().count() == 2
-    })
+/// What a text's first word shows that it is.
+#[derive(Clone, Debug, PartialEq, Eq)]
+pub enum Begins {
+    /// No word: only comments.
+    Nothing,
+    /// A word that begins a line.
+    Line,
+    /// A hexadecimal pair.
+    Pair,
+    /// Neither; what is wrong with it.
+    Neither(String),
+}
+
+/// What a text begins with.
+pub fn begins(text: &str) -> Begins {
+    match Words::of_text(text).next() {
+        None => Begins::Nothing,
+        Some(words) if LINE_WORDS.contains(&words.word) => Begins::Line,
+        Some(words) if pair(words.word).is_some() => Begins::Pair,
+        Some(words) => Begins::Neither(format!(
+            "line {}: {} is neither the first word of a line ({}) nor a hexadecimal pair such as \
+             0E; pairs stand apart",
+            words.line,
+            quoted(words.word),
+            LINE_WORDS[..8].join(", ")
+        )),
+    }
 }
 
 /// Bytes as hexadecimal pairs; `#` begins a comment.
@@ -291,35 +312,43 @@ impl PlanLines {
         [0, 1, 2].map(|part| self.lanes.iter().map(|lane| lane.says[part]).collect())
     }
 
+    /// Whether the count of places is one that a plan may have.
+    pub fn has_places(&self) -> bool {
+        (1..=MOST_VERTICES).contains(&self.places.says)
+    }
+
     /// The plan's bytes, faults of range and order included; what bytes
     /// cannot say is told with its line.
     fn bytes(&self) -> Result<Vec<u8>, String> {
         let mut bytes = Vec::new();
-        let mut push = |line: usize, number: u32| {
+        let mut push = |line: usize, number: u32, wrong: &dyn Fn() -> String| {
             if number > MOST_IN_THREE_GROUPS {
-                return Err(format!(
-                    "line {line}: {number} takes more than three groups; a plan number is at \
-                     most {MOST_IN_THREE_GROUPS}"
-                ));
+                return Err(format!("line {line}: {}", wrong()));
             }
             push_number(&mut bytes, number);
             Ok(())
         };
-        push(self.places.number, self.places.says)?;
-        push(self.places.number, self.lanes.len() as u32)?;
+        let Line {
+            number,
+            says: places,
+        } = self.places;
+        push(number, places, &|| wrong_place_count(places))?;
+        let lanes = self.lanes.len();
+        let first_over = self.lanes.get(MOST_EDGES as usize);
+        let line = first_over.map_or(0, |lane| lane.number);
+        push(line, lanes as u32, &|| too_many_lanes(lanes))?;
         let mut before = 0;
         for lane in &self.lanes {
-            let [tail, head, cost] = lane.says;
+            let (line, [tail, head, cost]) = (lane.number, lane.says);
             let Some(difference) = tail.checked_sub(before) else {
                 return Err(format!(
-                    "line {}: tail {tail} stands after tail {before}; lanes stand by rising \
-                     tails, and under one tail by rising heads",
-                    lane.number
+                    "line {line}: tail {tail} stands after tail {before}; lanes stand by rising \
+                     tails, and under one tail by rising heads"
                 ));
             };
-            for number in [difference, head, cost] {
-                push(lane.number, number)?;
-            }
+            push(line, difference, &|| not_a_place("tail", tail, places))?;
+            push(line, head, &|| not_a_place("head", head, places))?;
+            push(line, cost, &|| too_dear(cost))?;
             before = tail;
         }
         Ok(bytes)
@@ -382,8 +411,10 @@ impl TextPlan {
         }
     }
 
+    /// The count of places, if it is known and one that a plan may have.
     fn places(&self) -> Option<usize> {
-        self.lines().map(|lines| lines.places.says as usize)
+        let lines = self.lines().filter(PlanLines::has_places)?;
+        Some(lines.places.says as usize)
     }
 }
 
@@ -413,17 +444,14 @@ impl JobParts {
             "round" => self.rounds.push(words.exactly()?),
             "anchor" => words.once(&mut self.anchor, words.says(words.numbers()?))?,
             "guide" => self.guides.push(words.says(words.numbers()?)),
-            "guides" => words.once(&mut self.count, words.one()?)?,
+            "guides" => {
+                let hint = |wrong| format!("{wrong}; the line of a guide sheet is 'guide'");
+                words.once(&mut self.count, words.one().map_err(hint)?)?;
+            }
             "tables" => words.more(&mut self.tables)?,
             "bytes" => words.more(&mut self.whole)?,
             _ if self.lines.take(words)? => {}
-            word => {
-                return words.wrong(format!(
-                    "{} begins no line; a line is places, lane, start, goal, allowance, round, \
-                     anchor or guide",
-                    quoted(word)
-                ))
-            }
+            _ => return words.begins_no_line(),
         }
         match self.clash() {
             Some(clash) => words.wrong(clash),
@@ -466,8 +494,8 @@ impl JobParts {
                 guides: self.guides,
             },
         };
-        tables.has_one_length(plan.places())?;
         plan.bytes()?;
+        tables.has_one_length(plan.places())?;
         Ok(TextJob::Lines(JobLines {
             plan,
             start: self.start.ok_or(missing("start PLACE"))?,
@@ -500,36 +528,85 @@ impl TextJob {
     /// The text form of a job's bytes.
     pub fn of_bytes(bytes: &[u8]) -> TextJob {
         match JobLines::of_bytes(bytes) {
-            Some(lines) => TextJob::Lines(lines),
-            None => TextJob::Bytes(bytes.to_vec()),
+            Ok(lines) => TextJob::Lines(lines),
+            Err(_) => TextJob::Bytes(bytes.to_vec()),
         }
     }
 
-    /// The job's lines, if its bytes can be read up to the guide count.
-    pub fn lines(&self) -> Option<JobLines> {
+    /// The job's lines, or why its bytes cannot be read up to the guide
+    /// count.
+    pub fn lines(&self) -> Result<JobLines, String> {
         match self {
-            TextJob::Lines(lines) => Some(lines.clone()),
+            TextJob::Lines(lines) => Ok(lines.clone()),
             TextJob::Bytes(bytes) => JobLines::of_bytes(bytes),
         }
     }
 }
 
-/// Takes the first number of a job's bytes.
-fn job_number(rest: &mut &[u8]) -> Option<u32> {
-    let (number, next) = reference::read_job_number(rest, 0).ok()?;
-    *rest = &rest[next..];
-    Some(number)
+/// A job's bytes, read from the front.
+struct JobBytes<'a> {
+    bytes: &'a [u8],
+    at: usize,
+}
+
+impl<'a> JobBytes<'a> {
+    /// The next number; what it is stands in the message if there is none.
+    fn number(&mut self, what: &str) -> Result<u32, String> {
+        match reference::read_job_number(self.bytes, self.at) {
+            Ok((number, next)) => {
+                self.at = next;
+                Ok(number)
+            }
+            Err(_) => {
+                let rest = &self.bytes[self.at..];
+                match rest.len() < 5 && rest.iter().all(|byte| byte & 0x80 != 0) {
+                    true => self.ends(what),
+                    false => Err(format!(
+                        "at byte {}, counted from 0, {what} is over 32 bits or not in its \
+                         shortest form",
+                        self.at
+                    )),
+                }
+            }
+        }
+    }
+
+    fn take(&mut self, length: u32, what: &str) -> Result<&'a [u8], String> {
+        match self.bytes[self.at..].split_at_checked(length as usize) {
+            Some((taken, _)) => {
+                self.at += taken.len();
+                Ok(taken)
+            }
+            None => self.ends(what),
+        }
+    }
+
+    fn ends<T>(&self, what: &str) -> Result<T, String> {
+        let bytes = count(self.bytes.len(), "byte");
+        Err(format!(
+            "the bytes end before {what} is whole, after {bytes}"
+        ))
+    }
 }
 
 impl TextTables {
-    /// Anchor table and guide sheets as lines, the anchor first, if they have
-    /// lines.
-    pub fn lines(&self) -> Option<Vec<Line<Vec<u32>>>> {
+    /// All numbers of anchor table and guide sheets, or why their bytes are
+    /// none.
+    pub fn numbers(&self) -> Result<Vec<u32>, String> {
         match self {
             TextTables::Lines { anchor, guides } => {
-                Some(iter::once(anchor).chain(guides).cloned().collect())
+                let tables = iter::once(anchor).chain(guides);
+                Ok(tables.flat_map(|table| table.says.clone()).collect())
             }
-            TextTables::Bytes { guides, bytes } => TextTables::of_bytes(guides, bytes)?.lines(),
+            TextTables::Bytes { bytes, .. } => {
+                let bytes = &bytes.says[..];
+                let mut bytes = JobBytes { bytes, at: 0 };
+                let mut numbers = Vec::new();
+                while bytes.at < bytes.bytes.len() {
+                    numbers.push(bytes.number("a table's number")?);
+                }
+                Ok(numbers)
+            }
         }
     }
 
@@ -557,11 +634,12 @@ impl TextTables {
     /// that is not as long as the plan has places is told, or where those
     /// are not known the first that is not as long as the anchor table.
     fn has_one_length(&self, places: Option<usize>) -> Result<(), String> {
-        let tables = self.lines().unwrap_or_default();
-        let lengths: Vec<usize> = tables.iter().map(|table| table.says.len()).collect();
-        let Some(&anchor) = lengths.first() else {
+        let TextTables::Lines { anchor, guides } = self else {
             return Ok(());
         };
+        let tables: Vec<&Line<Vec<u32>>> = iter::once(anchor).chain(guides).collect();
+        let lengths: Vec<usize> = tables.iter().map(|table| table.says.len()).collect();
+        let anchor = lengths[0];
         if lengths.iter().all(|&length| length == anchor) {
             return Ok(());
         }
@@ -578,26 +656,30 @@ impl TextTables {
         Err(format!("line {line}: {name} has {numbers}, and {other}"))
     }
 
-    /// The lines of bytes whose numbers make tables of one length.
-    fn of_bytes(guides: &Line<u32>, bytes: &Line<Vec<u8>>) -> Option<TextTables> {
-        let mut rest = &bytes.says[..];
-        let mut numbers = Vec::new();
-        while !rest.is_empty() {
-            numbers.push(job_number(&mut rest)?);
-        }
-        let tables = guides.says as usize + 1;
-        if numbers.len() % tables != 0 || numbers.is_empty() && guides.says > 8 {
-            return None;
+    /// Lines in place of bytes, if the numbers make whole tables for so many
+    /// places, or where those are not known for any.
+    fn with_lines(self, places: Option<usize>) -> TextTables {
+        let (count, numbers) = (self.guide_count().says, self.numbers());
+        let (TextTables::Bytes { bytes, .. }, Ok(numbers)) = (&self, numbers) else {
+            return self;
+        };
+        let tables = count + 1;
+        let whole = match places {
+            Some(places) => numbers.len() == tables * places,
+            None => count <= 8 && numbers.len() % tables == 0,
+        };
+        if !whole {
+            return self;
         }
         let length = numbers.len() / tables;
         let mut lines = (0..tables).map(|table| Line {
             number: bytes.number,
             says: numbers[table * length..][..length].to_vec(),
         });
-        Some(TextTables::Lines {
-            anchor: lines.next()?,
+        TextTables::Lines {
+            anchor: lines.next().expect("there is an anchor table"),
             guides: lines.collect(),
-        })
+        }
     }
 }
 
@@ -629,39 +711,29 @@ impl JobLines {
         bytes
     }
 
-    /// The lines of a job that can be read up to its guide count.
-    fn of_bytes(bytes: &[u8]) -> Option<JobLines> {
-        let line = |says: u32| Line { number: 0, says };
-        let mut rest = bytes;
-        let length = job_number(&mut rest)?;
-        let (plan, after) = rest.split_at_checked(length as usize)?;
-        rest = after;
+    /// The lines of a job, or why it cannot be read up to its guide count.
+    fn of_bytes(bytes: &[u8]) -> Result<JobLines, String> {
+        fn line<T>(says: T) -> Line<T> {
+            Line { number: 0, says }
+        }
+        let mut job = JobBytes { bytes, at: 0 };
+        let length = job.number("the plan's length")?;
+        let plan = job.take(length, "the plan")?;
         let plan = match PlanLines::of_bytes(plan) {
             Some(lines) => TextPlan::Lines(lines),
-            None => TextPlan::Bytes(Line {
-                number: 0,
-                says: plan.to_vec(),
-            }),
+            None => TextPlan::Bytes(line(plan.to_vec())),
         };
-        let (start, goal) = (line(job_number(&mut rest)?), line(job_number(&mut rest)?));
-        let allowance = line(job_number(&mut rest)?);
+        let start = line(job.number("the start")?);
+        let goal = line(job.number("the goal")?);
+        let allowance = line(job.number("the allowance")?);
         let mut rounds = Vec::new();
-        for _ in 0..job_number(&mut rest)? {
-            rounds.push(Line {
-                number: 0,
-                says: [job_number(&mut rest)?, job_number(&mut rest)?],
-            });
+        for _ in 0..job.number("the count of rounds")? {
+            rounds.push(line([job.number("a factor")?, job.number("a factor")?]));
         }
-        let count = job_number(&mut rest)?;
-        let bytes = Line {
-            number: 0,
-            says: rest.to_vec(),
-        };
-        let tables = TextTables::of_bytes(&line(count), &bytes).unwrap_or(TextTables::Bytes {
-            guides: line(count),
-            bytes,
-        });
-        Some(JobLines {
+        let guides = line(job.number("the count of guides")?);
+        let bytes = line(job.bytes[job.at..].to_vec());
+        let tables = TextTables::Bytes { guides, bytes }.with_lines(plan.places());
+        Ok(JobLines {
             plan,
             start,
             goal,

@@ -6,7 +6,7 @@ use secondcoop_tests::jobs;
 use secondcoop_tests::planners::{kind_of_text, KINDS};
 use secondcoop_tests::random::Random;
 use secondcoop_tests::refusals::{remarks, Taker};
-use secondcoop_tests::text::{means_pairs, pairs, pairs_text, PlanLines, TextJob};
+use secondcoop_tests::text::{begins, pairs, pairs_text, Begins, PlanLines, TextJob};
 
 /// Job A of the paper.
 const JOB_A: &str = "\
@@ -94,11 +94,22 @@ fn pairs_are_read_and_printed() {
         assert_eq!(pairs(&format!("00\n01 {wrong}")), Err(words.clone()));
         assert_eq!(pairs(&format!("00\n{wrong} 01")), Err(words));
     }
-    for text in ["0G", "G0 01", "# a comment\n0E 04", "0E04", "7"] {
-        assert!(means_pairs(text), "{text}");
+    for text in ["0E", "# a comment\n0e 04", "FF places"] {
+        assert_eq!(begins(text), Begins::Pair, "{text}");
     }
-    for text in ["", "# 0E", "places 4", "plan 04 00", "bytes"] {
-        assert!(!means_pairs(text), "{text}");
+    for text in ["places 4", "# 0E\n\n  bytes", "plan 04 00"] {
+        assert_eq!(begins(text), Begins::Line, "{text}");
+    }
+    for text in ["", "# 0E", "\n \n"] {
+        assert_eq!(begins(text), Begins::Nothing, "{text}");
+    }
+    for text in ["0G", "0E04", "7", "4 places", "Places 4"] {
+        let word = text.split(' ').next().unwrap();
+        let words = format!(
+            "line 1: '{word}' is neither the first word of a line (places, lane, start, goal, \
+             allowance, round, anchor, guide) nor a hexadecimal pair such as 0E; pairs stand apart"
+        );
+        assert_eq!(begins(text), Begins::Neither(words), "{text}");
     }
 }
 
@@ -137,7 +148,22 @@ fn a_line_that_bytes_cannot_say_is_told() {
         (
             2,
             "places 2097152",
-            "line 2: 2097152 takes more than three groups; a plan number is at most 2097151",
+            "line 2: a plan has 1 to 4096 places, not 2097152",
+        ),
+        (
+            3,
+            "lane 0 1 3000000",
+            "line 3: cost 3000000 is above 1000000",
+        ),
+        (
+            6,
+            "lane 3000000 3 3",
+            "line 6: tail 3000000 is not a place; places are 0 to 3",
+        ),
+        (
+            6,
+            "lane 2 3000000 3",
+            "line 6: head 3000000 is not a place; places are 0 to 3",
         ),
         (
             3,
@@ -148,7 +174,28 @@ fn a_line_that_bytes_cannot_say_is_told() {
             3,
             "lanes 0 1 1",
             "line 3: 'lanes' begins no line; a line is places, lane, start, goal, allowance, \
-             round, anchor or guide",
+             round, anchor, guide",
+        ),
+        (
+            3,
+            "Lane 0 1 1",
+            "line 3: 'Lane' begins no line; 'lane' does, in small letters",
+        ),
+        (
+            12,
+            "anchor 6 5\n3 0",
+            "line 13: '3' begins no line; a table stands on one line",
+        ),
+        (
+            8,
+            "goal \"3\"",
+            "line 8: '\"3\"' is not a number from 0 to 4294967295",
+        ),
+        (
+            13,
+            "guides 0 9 0 0",
+            "line 13: 'guides' takes 1 number, and 4 stand there; the line of a guide sheet is \
+             'guide'",
         ),
         (
             3,
@@ -284,8 +331,8 @@ fn a_line_that_the_bench_program_refuses_is_told() {
         (
             2,
             "places 5",
-            "line 12: the anchor table has 4 numbers, and the plan has 5 places (refusal 14); \
-             line 13: guide 1 has 4 numbers, and the plan has 5 places (refusal 14)",
+            "line 12: the anchor table and 1 guide have 4 numbers each, and the plan has 5 places \
+             (refusal 14)",
         ),
         (
             2,
@@ -305,4 +352,49 @@ fn a_line_that_the_bench_program_refuses_is_told() {
         remarks(11, &many),
         "line 26: there are 17 rounds, over 16 (refusal 14)"
     );
+}
+
+/// What is wrong with a job's bytes, by the text form that they have.
+#[test]
+fn bytes_that_the_bench_program_refuses_are_told() {
+    let whole = pairs(JOB_A_PAIRS).unwrap();
+    let words = |bytes: &[u8]| {
+        let job = TextJob::parse(&TextJob::of_bytes(bytes).to_string()).unwrap();
+        let remarks = remarks(&job, Taker::Bench);
+        let remarks: Vec<String> = remarks.iter().map(|remark| remark.to_string()).collect();
+        remarks.join("; ")
+    };
+    let with = |more: &[u8]| [&whole[..], more].concat();
+    for (bytes, expected) in [
+        (
+            whole[..16].to_vec(),
+            "the bytes end before the goal is whole, after 16 bytes (refusal 14)",
+        ),
+        (
+            whole[..9].to_vec(),
+            "the bytes end before the plan is whole, after 9 bytes (refusal 14)",
+        ),
+        (
+            vec![1, 0, 0x80, 0],
+            "at byte 2, counted from 0, the start is over 32 bits or not in its shortest form \
+             (refusal 14)",
+        ),
+        (
+            whole[..whole.len() - 1].to_vec(),
+            "line 12: the tables have 7 numbers; an anchor table and 1 guide for 4 places take 8 \
+             (refusal 14)",
+        ),
+        (
+            with(&[0, 0]),
+            "line 12: the tables have 10 numbers; an anchor table and 1 guide for 4 places take \
+             8 (refusal 14)",
+        ),
+        (
+            with(&[0x80]),
+            "line 12: in the tables the bytes end before a table's number is whole, after 9 \
+             bytes (refusal 14)",
+        ),
+    ] {
+        assert_eq!(words(&bytes), expected);
+    }
 }

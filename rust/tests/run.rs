@@ -121,17 +121,21 @@ fn jobs_at_the_limits_of_a_call() {
     assert_eq!(most, [4_096, 32_768]);
 }
 
+/// The kind of ending that both planners give for the call of a job's bytes,
+/// and its remarks.
+fn kind_of_call(bytes: &[u8]) -> usize {
+    let text = TextJob::of_bytes(bytes);
+    let printed = run::call(&Library, &text);
+    assert_eq!(printed, run::call(&SecondPlanner, &text));
+    remarks_agree(&text, Taker::Call, &printed)
+}
+
 /// Each refusal of a call, in the right words.
 #[test]
 fn refusals_of_a_call() {
     let mut random = Random::new(74);
     let mut kinds = [0; KINDS];
-    let mut refused = |job: &Job| {
-        let text = TextJob::of_bytes(&job.bench_bytes());
-        let printed = run::call(&Library, &text);
-        assert_eq!(printed, run::call(&SecondPlanner, &text));
-        kinds[remarks_agree(&text, Taker::Call, &printed)] += 1;
-    };
+    let mut refused = |job: &Job| kinds[kind_of_call(&job.bench_bytes())] += 1;
     for _ in 0..25 {
         for number in [1, 2, 3, 4, 5, 6, 7, 8, 9, 10, 12, 13] {
             let (plan, mut job) = larger_job(&mut random);
@@ -152,8 +156,20 @@ fn refusals_of_a_call() {
     refused(&job);
     for (kind, count) in kinds.into_iter().enumerate() {
         match kind {
-            11 => assert_eq!(count, 0),
+            11 | 14 => assert_eq!(count, 0, "kind {kind}"),
             _ => assert!(count > 10, "kind {kind}: {count}"),
         }
+    }
+}
+
+/// Bytes that hold no call: cut off, or with a number of bad form.
+#[test]
+fn bytes_without_a_call() {
+    let mut random = Random::new(77);
+    for _ in 0..50 {
+        let (_, job) = larger_job(&mut random);
+        let bytes = job.bench_bytes();
+        assert_eq!(kind_of_call(&bytes[..random.index(job.bytes.len())]), 14);
+        assert_eq!(kind_of_call(&[&bytes[..], &[0x80, 0]].concat()), 14);
     }
 }

@@ -1,8 +1,10 @@
 //! The tools `job` and `plan` as people use them: forms of input, messages
 //! and exit statuses.
 
+use std::ffi::OsStr;
 use std::fs;
 use std::io::Write as _;
+use std::os::unix::ffi::OsStrExt as _;
 use std::path::{Path, PathBuf};
 use std::process::{Command, Stdio};
 
@@ -103,23 +105,34 @@ fn a_comment_in_latin_1_is_a_comment() {
     // Outside a comment its line is told.
     let text = [b"places 4\nl\xE4ne 0 1 1".as_slice()].concat();
     let words = "standard input: line 2: 'l\u{e4}ne' begins no line; a line is places, lane, \
-                 start, goal, allowance, round, anchor or guide\n";
+                 start, goal, allowance, round, anchor, guide\n";
     assert_eq!(job(&["check"], text), left(4, "", words));
 }
 
 #[test]
 fn a_wrong_pair_is_told() {
-    let words = |line: u32, word: &str| {
-        format!("standard input: line {line}: '{word}' is not a hexadecimal pair from 00 to FF\n")
-    };
     for (text, line, word) in [
-        ("0G", 1, "0G"),
         ("0E 04 04\n00 0G 01", 2, "0G"),
-        ("0E0404", 1, "0E0404"),
         ("0E 04\n\nplaces", 3, "places"),
+        ("0E 04 0x05", 1, "0x05"),
     ] {
-        assert_eq!(job(&["check"], text), left(4, "", &words(line, word)));
-        assert_eq!(plan(&[], text), left(4, "", &words(line, word)));
+        let wrong = format!("'{word}' is not a hexadecimal pair from 00 to FF");
+        let words = format!("standard input: line {line}: {wrong}\n");
+        assert_eq!(job(&["check"], text), left(4, "", &words));
+        assert_eq!(plan(&[], text), left(4, "", &words));
+    }
+    // At the beginning it may be meant as a line as well.
+    for word in [
+        "0G", "0E0404", "0x0E", "bc01183e", "4", "My", "//", "PLACES",
+    ] {
+        let words = format!(
+            "standard input: line 2: '{word}' is neither the first word of a line (places, lane, \
+             start, goal, allowance, round, anchor, guide) nor a hexadecimal pair such as 0E; \
+             pairs stand apart\n"
+        );
+        let text = format!("# a comment\n{word} 04 places\n");
+        assert_eq!(job(&["check"], &text), left(4, "", &words));
+        assert_eq!(plan(&[], &text), left(4, "", &words));
     }
     // Pairs may have comments.
     let pairs = job(&["hex"], read("job-a.txt")).out;
@@ -139,16 +152,56 @@ fn a_byte_order_mark_is_left_out() {
     let text = with("job-a.txt", "start", "\u{feff}start");
     let left = job(&["check"], text);
     assert!(left.err.contains("line 8: '\\u{feff}start' begins no line"));
-    // A text in UTF-16 is told.
+}
+
+#[test]
+fn a_text_in_utf_16_is_told() {
     let words = "standard input: this text is in UTF-16; it is read in UTF-8\n";
-    let units: Vec<u16> = format!("\u{feff}{}", read("job-a.txt"))
-        .encode_utf16()
-        .collect();
-    let little: Vec<u8> = units.iter().flat_map(|unit| unit.to_le_bytes()).collect();
-    let big: Vec<u8> = units.iter().flat_map(|unit| unit.to_be_bytes()).collect();
-    for text in [little, big] {
-        assert_eq!(job(&["check"], &text), self::left(4, "", words));
-        assert_eq!(plan(&["-"], &text), self::left(4, "", words));
+    for mark in ["", "\u{feff}"] {
+        let text = format!("{mark}{}", read("job-a.txt"));
+        let units: Vec<u16> = text.encode_utf16().collect();
+        let little: Vec<u8> = units.iter().flat_map(|unit| unit.to_le_bytes()).collect();
+        let big: Vec<u8> = units.iter().flat_map(|unit| unit.to_be_bytes()).collect();
+        for text in [little, big] {
+            assert_eq!(job(&["check"], &text), left(4, "", words));
+            assert_eq!(plan(&["-"], &text), left(4, "", words));
+        }
+    }
+}
+
+#[test]
+fn line_ends_and_stray_characters() {
+    let (text, out) = (read("job-a.txt"), read("job-a.out"));
+    for end in ["\r\n", "\r", "\n\n"] {
+        assert_eq!(job(&["run"], text.replace('\n', end)), left(0, &out, ""));
+    }
+    assert_eq!(job(&["run"], text.trim_end()), left(0, &out, ""));
+    assert_eq!(job(&["run"], format!("{text}\u{1a}")), left(0, &out, ""));
+    let stray = with("job-a.txt", "goal 3", "goal 3\u{1b}");
+    let words = "standard input: line 9: the control character 1B stands in no text\n";
+    for tool in [job(&["run"], &stray), plan(&[], &stray)] {
+        assert_eq!(tool, left(4, "", words));
+    }
+}
+
+/// Bytes that are no job, and a job's bytes cut off, are refused as the
+/// bench program does it.
+#[test]
+fn bytes_that_are_no_job() {
+    let whole = fs::read(example("job-a.job")).expect("an example");
+    let words = "the bytes end before the plan is whole, after 9 bytes (refusal 14)\n\
+                 (read as a job's bytes)\n";
+    let refused = "refused 14 at 0\n";
+    assert_eq!(job(&["run"], &whole[..9]), left(3, refused, words));
+    for bytes in [
+        &[0xBC][..],
+        &[0xFF; 300],
+        b"\x7FELF\x02\x01",
+        b"\x89PNG\r\n\x1A\n",
+    ] {
+        let left = job(&["run"], bytes);
+        assert_eq!((left.status, left.out.as_str()), (3, refused), "{bytes:?}");
+        assert!(left.err.ends_with("(read as a job's bytes)\n"));
     }
 }
 
@@ -177,6 +230,47 @@ fn one_fault_is_told_once() {
         let text = with("wall.txt", old, new);
         assert_eq!(job(&["check"], text), left(3, words, ""));
     }
+    // Many faults of one sort are counted.
+    let text = with("wall.txt", "places 24", "places 2");
+    let left = job(&["check"], text);
+    let lines: Vec<&str> = left.out.lines().collect();
+    let fourth = lines.iter().filter(|line| line.ends_with("(refusal 4)"));
+    assert_eq!((left.status, fourth.count()), (3, 9), "{}", left.out);
+    assert!(lines.contains(&"and 106 more such lines (refusal 4)"));
+}
+
+/// Where output cannot be written, that is told; a reader that wants no more
+/// is none the worse.
+#[test]
+fn output_that_cannot_be_written() {
+    let full = || fs::OpenOptions::new().write(true).open("/dev/full");
+    let run = |program: &str, arguments: &[&str], out: Stdio, err: Stdio| {
+        let mut command = Command::new(program);
+        let command = command.args(arguments).current_dir(example("")).stdout(out);
+        command.stderr(err).output().expect("the tool runs")
+    };
+    let (job, plan) = (env!("CARGO_BIN_EXE_job"), env!("CARGO_BIN_EXE_plan"));
+    for (program, arguments) in [
+        (job, &["run", "job-a.txt"][..]),
+        (job, &["bytes", "job-a.txt"]),
+        (job, &["check", "job-a.txt"]),
+        (plan, &["plan-a.txt"]),
+    ] {
+        let full = full().expect("a full device").into();
+        let left = run(program, arguments, full, Stdio::piped());
+        assert_eq!(left.status.code(), Some(4), "{arguments:?}");
+        assert!(left.stderr.starts_with(b"standard output: "));
+    }
+    let full = full().expect("a full device").into();
+    let left = run(job, &["run", "refusal-13.txt"], Stdio::piped(), full);
+    assert_eq!(
+        (left.status.code(), &left.stdout[..]),
+        (Some(3), &b"refused 13 at 0\n"[..])
+    );
+    let (reader, writer) = std::io::pipe().expect("a pipe");
+    drop(reader);
+    let left = run(job, &["run", "wall.txt"], writer.into(), Stdio::piped());
+    assert_eq!((left.status.code(), left.stderr.len()), (Some(0), 0));
 }
 
 #[test]
@@ -202,6 +296,8 @@ fn help_is_printed() {
         assert_eq!((left.status, left.err.as_str()), (0, ""));
         assert!(left.out.starts_with("usage: plan FILE\n"));
     }
+    assert_eq!(job(&["run", "no such file", "--help"], "").status, 0);
+    assert_eq!(plan(&["no such file", "-h"], "").status, 0);
     // Wrong use shows the same on standard error.
     for arguments in [
         &[][..],
@@ -211,8 +307,10 @@ fn help_is_printed() {
     ] {
         let left = job(arguments, "");
         assert_eq!((left.status, left.out.as_str()), (4, ""), "{arguments:?}");
-        assert!(left.err.starts_with("usage: job run FILE"));
+        assert!(left.err.contains("usage: job run FILE"));
     }
+    let unknown = job(&["RUN", "a"], "").err;
+    assert!(unknown.starts_with("'RUN' is not a command\nusage: job run FILE"));
     assert_eq!(plan(&["a", "b"], "").status, 4);
 }
 
@@ -233,6 +331,9 @@ fn standard_input_is_read() {
     assert_eq!(of_file.out, "04 04 00 01 01 00 02 04 01 02 02 01 03 03\n");
     assert_eq!(plan(&["-"], read("plan-a.txt")), of_file);
     assert_eq!(plan(&[], read("plan-a.txt")), of_file);
+    let mut odd = Command::new(env!("CARGO_BIN_EXE_job"));
+    let odd = odd.arg("run").arg(OsStr::from_bytes(b"caf\xE9"));
+    assert_eq!(odd.output().expect("the tool runs").status.code(), Some(4));
     let no_file = job(&["check", "no such file"], "");
     assert_eq!((no_file.status, no_file.out.as_str()), (4, ""));
     assert!(no_file.err.starts_with("no such file: "));
@@ -288,9 +389,9 @@ fn positions_are_described_for_reader_and_writer() {
     }
     // The writer's lane is named by `plan` too.
     let text = "places 4\nlane 0 1 1\nlane 0 9 1\n";
-    let words = "refused 4 at 1, lane number 1 from 0: a tail or head is not a place\n";
+    let words = "refused 4 at 1, lane 1 counted from 0, line 3: a tail or head is not a place\n";
     assert_eq!(plan(&[], text), left(3, "", words));
-    let words = "refused 4 at 3, byte number 3 from 0: a tail or head is not a place\n";
+    let words = "refused 4 at 3, byte 3 counted from 0: a tail or head is not a place\n";
     assert_eq!(plan(&[], "04 01 00 09 01"), left(3, "", words));
 }
 
@@ -326,7 +427,7 @@ fn the_exit_status_tells_the_ending() {
         job(&["run"], read("refusal-13.txt")),
         left(3, "refused 13 at 0\n", &format!("line 3: {words}"))
     );
-    let note = "(the lines are those that 'job text' prints)\n";
+    let note = "(read as a job's bytes; the lines are those that 'job text' prints)\n";
     assert_eq!(
         job(&["run"], fs::read(example("refusal-13.job")).unwrap()),
         left(3, "refused 13 at 0\n", &format!("line 2: {words}{note}"))

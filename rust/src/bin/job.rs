@@ -2,7 +2,8 @@
 //! with it, and turns its readable text form into the bytes that the bench
 //! program reads, and back. `secondcoop_tests::text` has the form.
 
-use std::io::Write as _;
+use std::collections::BTreeMap;
+use std::ffi::OsStr;
 use std::process::ExitCode;
 
 use secondcoop_tests::input::{name_of, Input};
@@ -10,46 +11,30 @@ use secondcoop_tests::planner::HOUSE_SCHEDULE;
 use secondcoop_tests::planners::{self, Library, Planner, SecondPlanner};
 use secondcoop_tests::refusals::{position_words, refusal_words, remarks, Taker};
 use secondcoop_tests::run;
-use secondcoop_tests::text::{count, pairs_text, TextJob};
+use secondcoop_tests::text::{pairs_text, TextJob};
+use secondcoop_tests::tool::{self, Done, NOTHING_DONE, NO_ROUTE, REFUSED, UNFINISHED};
+use secondcoop_tests::words::{count, quoted};
 
 const USAGE: &str = "\
 usage: job run FILE         plans the job with the proved library; prints its turns, then the
                             route, no route, unfinished or the refusal
-       job check FILE       says what is wrong with the job, line by line
+       job check FILE       says what is wrong with the job, and in which lines
        job print FILE       as run, but by the second planner, which is tested and not proved
        job bytes FILE       the job's bytes, as the bench program reads them
        job hex FILE         the job's bytes as hexadecimal pairs
        job text FILE        the job's text form
        job describe NUMBER  a refusal in plain words
-FILE is a job as text, as hexadecimal pairs or as bytes; - or no FILE is standard input.
+FILE is a job as text, as hexadecimal pairs or as bytes; - is standard input, and so is no FILE
+where nobody types.
 The bench program takes up to 256 places, 2048 lanes and 32768 bytes; run, check and print take
 what the planner call takes, up to 4096 places and 32768 lanes.
 Exit status: 0 a route, or done; 1 no route; 2 unfinished; 3 refused, with the reason in plain
-words; 4 nothing was done: wrong use, or a file or a line that cannot be read.
+words; 4 nothing was done: wrong use, a file or a line that cannot be read or said in bytes, or
+output that cannot be written.
 ";
 
-/// Exit statuses beside 0.
-const NO_ROUTE: u8 = 1;
-const UNFINISHED: u8 = 2;
-const REFUSED: u8 = 3;
-const NOTHING_DONE: u8 = 4;
-
-/// What a command writes, and its exit status.
-struct Done {
-    output: Vec<u8>,
-    errors: String,
-    status: u8,
-}
-
-impl Done {
-    fn well(output: impl Into<Vec<u8>>) -> Done {
-        Done {
-            output: output.into(),
-            errors: String::new(),
-            status: 0,
-        }
-    }
-}
+/// Remarks of one refusal that are said; more of them are counted.
+const MOST_REMARKS: usize = 8;
 
 /// A job, and whether it was read from bytes.
 struct Read {
@@ -59,30 +44,43 @@ struct Read {
 
 impl Read {
     /// Reads a job in any of its three forms.
-    fn file(path: Option<&str>) -> Result<Read, String> {
-        match Input::read(path)? {
+    fn file(path: Option<&OsStr>) -> Result<Read, String> {
+        let (text, from_bytes) = match Input::read(path)? {
+            Input::Lines(text) => (text, false),
+            // The lines of the text form are numbered as it is printed.
             Input::Pairs(bytes) | Input::Bytes(bytes) => {
-                // The lines of the text form are numbered as it is printed.
-                let text = TextJob::of_bytes(&bytes).to_string();
-                let job = TextJob::parse(&text).expect("a printed text is read");
-                let from_bytes = true;
-                Ok(Read { job, from_bytes })
+                (TextJob::of_bytes(&bytes).to_string(), true)
             }
-            Input::Lines(text) => {
-                let name = name_of(path);
-                let job = TextJob::parse(&text).map_err(|wrong| format!("{name}: {wrong}"))?;
-                let from_bytes = false;
-                Ok(Read { job, from_bytes })
-            }
+        };
+        match TextJob::parse(&text) {
+            Ok(job) => Ok(Read { job, from_bytes }),
+            Err(wrong) => Err(format!("{}: {wrong}", name_of(path))),
         }
     }
 
     /// What is wrong with the job, a line for each fault.
     fn faults(&self, taker: Taker) -> String {
         let remarks = remarks(&self.job, taker);
-        let mut text: String = remarks.iter().map(|remark| format!("{remark}\n")).collect();
-        if self.from_bytes && remarks.iter().any(|remark| remark.line > 0) {
-            text.push_str("(the lines are those that 'job text' prints)\n");
+        let mut text = String::new();
+        let mut counts = BTreeMap::new();
+        for remark in &remarks {
+            let seen = counts.entry(remark.refusal).or_insert(0);
+            *seen += 1;
+            if *seen <= MOST_REMARKS {
+                text += &format!("{remark}\n");
+            }
+        }
+        for (refusal, seen) in counts {
+            if seen > MOST_REMARKS {
+                let more = count(seen - MOST_REMARKS, "more such line");
+                text += &format!("and {more} (refusal {refusal})\n");
+            }
+        }
+        if self.from_bytes && !remarks.is_empty() {
+            text += match remarks.iter().any(|remark| remark.line > 0) {
+                true => "(read as a job's bytes; the lines are those that 'job text' prints)\n",
+                false => "(read as a job's bytes)\n",
+            };
         }
         text
     }
@@ -143,61 +141,62 @@ impl Read {
     /// Another form of the job. A refused job has them too: what is wrong
     /// with it is said beside.
     fn form(&self, output: impl Into<Vec<u8>>) -> Done {
+        let taker = Taker::of(&self.job);
+        let size = match taker {
+            Taker::Bench => "",
+            Taker::Call => "the job is too large for the bench program; 'job run' takes it\n",
+        };
         Done {
-            errors: self.faults(Taker::Bench),
+            errors: self.faults(taker) + size,
             ..Done::well(output)
         }
     }
 }
 
-fn describe(number: &str) -> Result<Done, String> {
+fn describe(number: &str) -> Done {
     let words = number
         .parse()
         .ok()
         .and_then(|number| Some((refusal_words(number)?, position_words(number))));
     match words {
-        Some((words, position)) => Ok(Done::well(format!(
-            "refusal {number}: {words}; {position}\n"
-        ))),
-        None => Err(format!("'{number}' is not a refusal's number, 1 to 14")),
+        Some((words, position)) => Done::well(format!("refusal {number}: {words}; {position}\n")),
+        None => {
+            let number = quoted(number);
+            let words = format!("{number} is not a refusal's number, 1 to 14");
+            Done::wrong(NOTHING_DONE, words)
+        }
     }
 }
 
-fn done(arguments: &[&str]) -> Result<Done, String> {
-    let (command, path) = match *arguments {
-        ["help" | "--help" | "-h", ..] | [_, "--help" | "-h"] => return Ok(Done::well(USAGE)),
-        ["describe", number] => return describe(number),
-        [command] => (command, None),
-        [command, path] => (command, Some(path)),
-        _ => return Err(USAGE.trim_end().into()),
-    };
-    let command: fn(&Read) -> Done = match command {
+/// Runs a command on what stands in a file.
+fn on_file(command: &str, path: Option<&OsStr>) -> Done {
+    let done: fn(&Read) -> Done = match command {
         "run" => |read| read.run(&Library),
         "check" => Read::check,
         "print" => |read| read.run(&SecondPlanner),
         "bytes" => |read| read.form(read.job.bytes()),
         "hex" => |read| read.form(pairs_text("", &read.job.bytes())),
         "text" => |read| read.form(read.job.to_string()),
-        _ => return Err(USAGE.trim_end().into()),
+        _ => {
+            let words = format!("{} is not a command\n{USAGE}", quoted(command));
+            return Done::wrong(NOTHING_DONE, words);
+        }
     };
-    Ok(command(&Read::file(path)?))
+    match Read::file(path) {
+        Ok(read) => done(&read),
+        Err(wrong) => Done::wrong(NOTHING_DONE, wrong),
+    }
 }
 
 fn main() -> ExitCode {
-    let arguments: Vec<String> = std::env::args().skip(1).collect();
-    let arguments: Vec<&str> = arguments.iter().map(String::as_str).collect();
-    match done(&arguments) {
-        Ok(done) => {
-            let written = std::io::stdout().write_all(&done.output);
-            eprint!("{}", done.errors);
-            match written {
-                Ok(()) => ExitCode::from(done.status),
-                Err(_) => ExitCode::from(NOTHING_DONE),
-            }
-        }
-        Err(wrong) => {
-            eprintln!("{wrong}");
-            ExitCode::from(NOTHING_DONE)
-        }
-    }
+    let Some(arguments) = tool::arguments() else {
+        return Done::well(USAGE).leave();
+    };
+    let done = match &arguments[..] {
+        [command, number] if command == "describe" => describe(&number.to_string_lossy()),
+        [command] => on_file(&command.to_string_lossy(), None),
+        [command, path] => on_file(&command.to_string_lossy(), Some(path)),
+        _ => Done::wrong(NOTHING_DONE, USAGE),
+    };
+    done.leave()
 }

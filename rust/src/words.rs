@@ -1,0 +1,54 @@
+//! Words that messages share: counts, names, quotes, and what a plan's
+//! numbers may be.
+
+use crate::reference::{MOST_COST, MOST_EDGES, MOST_VERTICES};
+
+/// A count with the name of what is counted.
+pub fn count(number: usize, name: &str) -> String {
+    let plural = if number == 1 { "" } else { "s" };
+    format!("{number} {name}{plural}")
+}
+
+/// A word between quotes, characters that nobody sees spelt out, its first
+/// 40 if it is long.
+pub fn quoted(word: &str) -> String {
+    let mut shown = String::new();
+    for letter in word.chars().take(40) {
+        match letter {
+            '\'' | '"' | '\\' => shown.push(letter),
+            _ => shown.extend(letter.escape_debug()),
+        }
+    }
+    let more = if word.chars().count() > 40 { ".." } else { "" };
+    format!("'{shown}'{more}")
+}
+
+/// What a table is called: 0 is the anchor table.
+pub fn table_name(table: usize) -> String {
+    match table {
+        0 => "the anchor table".into(),
+        guide => format!("guide {guide}"),
+    }
+}
+
+/// A tail, head, start or goal that is none of the places.
+pub fn not_a_place(name: &str, place: u32, places: u32) -> String {
+    let range = match places {
+        0 => "there are no places".into(),
+        1 => "the only place is 0".into(),
+        _ => format!("places are 0 to {}", places - 1),
+    };
+    format!("{name} {place} is not a place; {range}")
+}
+
+pub fn wrong_place_count(places: u32) -> String {
+    format!("a plan has 1 to {MOST_VERTICES} places, not {places}")
+}
+
+pub fn too_many_lanes(lanes: usize) -> String {
+    format!("a plan has at most {MOST_EDGES} lanes, not {lanes}")
+}
+
+pub fn too_dear(cost: u32) -> String {
+    format!("cost {cost} is above {MOST_COST}")
+}
