@@ -66,7 +66,7 @@ impl Input {
             Begins::Neither(wrong) if plain && utf8.is_ok() => Err(wrong),
             Begins::Pair if plain => pairs(&lines).map(Input::Pairs),
             Begins::Line | Begins::Nothing if plain => Ok(Input::Lines(lines)),
-            Begins::Line => Err(stray(&lines)),
+            Begins::Line if is_no_job(&lines) => Err(stray(&lines)),
             _ => Ok(Input::Bytes(contents.to_vec())),
         }
     }
@@ -83,6 +83,14 @@ pub fn name_of(path: Option<&OsStr>) -> String {
 /// White space, and all that is no control character.
 fn is_plain(byte: u8) -> bool {
     matches!(byte, b'\t'..=b'\r') || !byte.is_ascii_control()
+}
+
+/// Whether a text with control characters cannot be a job that is accepted:
+/// a job has a guide count from 0 to 8, and one that begins with white space
+/// or small letters has a plan too short for its lanes.
+fn is_no_job(lines: &str) -> bool {
+    let commented = lines.trim_start().starts_with('#');
+    !commented || lines.bytes().all(|byte| byte > 8)
 }
 
 /// The first character that no text has.

@@ -4,12 +4,13 @@
 use secondcoop_tests::bench_text::{answer_text, MOST_BENCH_EDGES, MOST_BENCH_VERTICES};
 use secondcoop_tests::generate;
 use secondcoop_tests::guarded::GUARD;
+use secondcoop_tests::input::Input;
 use secondcoop_tests::jobs::{self, Job};
 use secondcoop_tests::planners::{self, kind_of_text, Library, Planner, SecondPlanner, KINDS};
 use secondcoop_tests::random::Random;
 use secondcoop_tests::refusals::{remarks, Taker};
 use secondcoop_tests::run;
-use secondcoop_tests::text::TextJob;
+use secondcoop_tests::text::{pairs_text, TextJob};
 
 /// What the bench program prints, by the library.
 fn bench_text(bytes: &[u8]) -> String {
@@ -39,6 +40,23 @@ fn remarks_agree(job: &TextJob, taker: Taker, printed: &str) -> usize {
         None => assert!(!(1..=14).contains(&kind), "refusal {kind}: {job}"),
     }
     kind
+}
+
+/// No accepted job's bytes are taken for a text, and its text form is none
+/// of bytes.
+#[test]
+fn accepted_jobs_are_read_as_what_they_are() {
+    let mut count = 0;
+    jobs::valid_jobs(78, 2_000, &mut |_, job| {
+        let bytes = job.bench_bytes();
+        assert_eq!(Input::of(&bytes), Ok(Input::Bytes(bytes.clone())));
+        let text = TextJob::of_bytes(&bytes).to_string();
+        assert_eq!(Input::of(text.as_bytes()), Ok(Input::Lines(text.clone())));
+        let pairs = pairs_text("", &bytes);
+        assert_eq!(Input::of(pairs.as_bytes()), Ok(Input::Pairs(bytes)));
+        count += 1;
+    });
+    assert!(count > 2_000);
 }
 
 #[test]

@@ -8,7 +8,7 @@ use std::os::unix::ffi::OsStrExt as _;
 use std::path::{Path, PathBuf};
 use std::process::{Command, Stdio};
 
-use secondcoop_tests::generate::random_plan;
+use secondcoop_tests::generate::{self, random_plan};
 use secondcoop_tests::jobs;
 use secondcoop_tests::planners::SecondPlanner;
 use secondcoop_tests::random::Random;
@@ -182,6 +182,32 @@ fn line_ends_and_stray_characters() {
     for tool in [job(&["run"], &stray), plan(&[], &stray)] {
         assert_eq!(tool, left(4, "", words));
     }
+    // Without a comment in front even a zero is one in a text.
+    let stray = with("job-a.txt", "goal 3", "goal 3\0");
+    let (_, stray) = stray.split_once("6.\n").expect("a comment");
+    let words = "standard input: line 7: the control character 00 stands in no text\n";
+    assert_eq!(job(&["run"], stray), left(4, "", words));
+}
+
+/// A job whose bytes look like a comment and a line is planned: its plan has
+/// 35 bytes, and its guide sheet a newline and the letters of a line's word.
+#[test]
+fn a_job_that_looks_like_a_text() {
+    let floor = generate::Plan {
+        vertices: 20,
+        tails: vec![0; 11],
+        heads: vec![0, 1, 2, 3, 4, 5, 6, 7, 8, 11, 12],
+        costs: vec![1; 11],
+    };
+    let mut sheet = vec![0; 20];
+    sheet[..6].copy_from_slice(&[10, 108, 97, 110, 101, 32]);
+    let looks = jobs::Job::new(&floor, 0, 12, vec![0; 20], sheet, 1, vec![], 40);
+    let bytes = looks.bench_bytes();
+    let (comment, line) = bytes.split_at(bytes.iter().position(|&byte| byte == 10).unwrap());
+    assert!(comment.starts_with(b"#") && line.starts_with(b"\nlane "));
+    let left = job(&["run"], &bytes);
+    assert_eq!((left.status, left.err.as_str()), (0, ""));
+    assert!(left.out.contains("route 0 12\n"), "{}", left.out);
 }
 
 /// Bytes that are no job, and a job's bytes cut off, are refused as the
