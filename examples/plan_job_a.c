@@ -2,7 +2,8 @@
  * Plans job A of document 01 and prints answer and route. The exit status is
  * 0 only if the answer is the paper's.
  *
- *   cc -std=c11 -Wall -Wextra -Werror -Iinclude examples/plan_job_a.c target/staticlib/libffi_planner.a
+ *   cc -std=c11 -Wall -Wextra -Werror -Iinclude examples/plan_job_a.c \
+ *       target/staticlib/libffi_planner.a -o target/plan_job_a && target/plan_job_a
  */
 #include <inttypes.h>
 #include <stdio.h>

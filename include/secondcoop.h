@@ -18,12 +18,13 @@
  *   Memory beyond what is written keeps its contents.
  * - `figures` points to SECONDCOOP_FIGURES numbers, for secondcoop_plan to
  *   SECONDCOOP_PLAN_FIGURES; the call writes them all, unused ones as 0. A
- *   refusal leaves all other memory untouched.
+ *   refusal in figures leaves all other memory untouched.
  * - Nothing is kept from call to call and there is no global state: several
  *   threads may call at once with different memory to write; what is only
  *   read they may share. Nothing is allocated, and every call returns.
  * - The libraries are for x86-64 with the System V calling convention (ELF
- *   objects, as on Linux) and need `memset` from outside, nothing else.
+ *   objects, as on Linux; position-independent, without unwind tables) and
+ *   need `memset` from outside, nothing else.
  * - A call needs SECONDCOOP_STACK bytes of stack at most, secondcoop_plan
  *   SECONDCOOP_PLAN_STACK, secondcoop_bench_text SECONDCOOP_TEXT_STACK.
  * - `rt staticlib NAME` makes target/staticlib/libNAME.a: ffi_numbers has the
@@ -32,7 +33,8 @@
  *
  * Refusals. They are checked downwards and the first fault counts; plan
  * numbers are taken in byte order, each through all its rows before the next
- * one is read. A position that is not named is 0.
+ * one is read. A position that is not named is 0; bytes are counted from 0
+ * at the plan's first byte (also in a bench job), lanes from 0 in plan order.
  *
  *   place             no. condition                              position
  *   any plan number    1  bytes end, over three groups, or not   its first byte
@@ -81,8 +83,8 @@ extern "C" {
 #define SECONDCOOP_HOUSE_ROUNDS 6
 
 /* Sizes of lent memory, in elements: figures; plan bytes that are always
- * enough to write so many lanes; route and work memory of a planner call; the
- * longest text of a bench job. */
+ * enough to write so many lanes; route and work memory of a planner call;
+ * bytes that are always enough for the text of a bench job. */
 #define SECONDCOOP_FIGURES 4
 #define SECONDCOOP_PLAN_FIGURES 8
 #define SECONDCOOP_PLAN_BYTES(lanes) (6 + 9 * (size_t)(lanes))
@@ -99,7 +101,7 @@ extern "C" {
  * every turn of such a call. At most 131072.
  */
 #define SECONDCOOP_TURNS(places, rounds) \
-    (2 * (size_t)(places) * (size_t)(rounds))
+    (UINT32_C(2) * (uint32_t)(places) * (uint32_t)(rounds))
 
 /* Stack of a call, in bytes: of each function on numbers or plans, of
  * secondcoop_plan, of secondcoop_bench_text. Measured, with room to spare. */
@@ -169,10 +171,10 @@ void secondcoop_check_plan(const uint8_t *bytes, size_t bytes_length,
                            uint64_t *figures);
 
 /*
- * Reads plan bytes into three lists: the first M places of each get the
+ * Reads plan bytes into three lists: the first M elements of each get the
  * lanes' tails, heads and costs, in plan order.
  * Figures: the first of refusals 1 to 7 and its position, then refusal 11 if
- * a list has under M places; or V and M.
+ * a list has under M elements; or V and M.
  */
 void secondcoop_read_plan(const uint8_t *bytes, size_t bytes_length,
                           uint32_t *tails, size_t tails_length,
@@ -250,8 +252,10 @@ enum {
  *   2 * V times its rounds.
  * - work, at least 5V+1+2M words (SECONDCOOP_WORK_WORDS): V+1 first lane numbers (the last is M),
  *   M heads, M costs, then four words for each place: its cost g, its cost
- *   when last expanded, its predecessor, and its marks as a sum (1 guide,
- *   2 anchor, 4 open, 8 held), as the search left them.
+ *   when last expanded, its predecessor, and its marks as a sum, as the
+ *   search left them. Marks: 1 expanded for a guide and 2 for the anchor, in
+ *   the last round that began; 4 open, it may be expanded; 8 held, its cost
+ *   fell after the anchor expanded it, and it waits for the next round.
  */
 void secondcoop_plan(const uint8_t *bytes, size_t bytes_length,
                      uint32_t start, uint32_t goal,
@@ -269,16 +273,24 @@ void secondcoop_plan(const uint8_t *bytes, size_t bytes_length,
  * What the bench program prints for a job's bytes: plan length, the plan,
  * start, goal, allowance, count of rounds and their factors, guide count,
  * anchor table, guide sheets, each number in up to five groups and 32 bits.
+ * Each line ends in a newline:
+ *
+ *   turn K table T place S       for each turn, then one of:
+ *   route S S ..                 and in a second line
+ *   end cost C rounds R turns N bound B
+ *   no route turns N
+ *   unfinished turns N
+ *   refused N at P               for a refusal this line alone
  *
  * Gives the length of the text; its first bytes are written as far as there
  * is room, without a byte 0 at the end, and the rest of the memory keeps its
- * contents. A call with no room gives the length alone; no text is longer
- * than SECONDCOOP_MAX_TEXT bytes.
+ * contents. A call with no room gives the length alone; SECONDCOOP_MAX_TEXT
+ * bytes are always enough.
  *
  * Refusal 14 comes first for over 32768 bytes, over 16 rounds or 8 guides,
  * or bytes missing or a number of bad form up to the guide count; and after
  * refusal 7 if V > 256, M > 2048, or the tables are short, of bad form or
- * leave bytes over.
+ * leave bytes over. Refusals 9 and 11 cannot occur.
  */
 size_t secondcoop_bench_text(const uint8_t *job, size_t job_length,
                              uint8_t *text, size_t text_length);

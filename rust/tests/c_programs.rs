@@ -1,6 +1,7 @@
 //! The C header: programs built with it plan job A, call every function, meet
 //! every refusal number and measure the stack; it is C++ too.
 
+use std::ffi::OsStr;
 use std::path::{Path, PathBuf};
 use std::process::{Command, Output};
 
@@ -16,13 +17,19 @@ fn must_succeed(command: &mut Command) {
     assert!(output.status.success(), "{words}");
 }
 
-/// Builds a C program with all warnings as errors.
+/// Builds a C or C++ program with all warnings as errors.
 fn build(source: &Path) -> PathBuf {
-    let name = source.file_stem().expect("a source has a name");
-    let program = Path::new(env!("CARGO_TARGET_TMPDIR")).join(name);
-    let mut compiler = Command::new("cc");
+    let name = source.file_name().expect("a source has a name");
+    let program = Path::new(env!("CARGO_TARGET_TMPDIR"))
+        .join(name)
+        .with_extension("program");
+    let (compiler, standard) = match source.extension().and_then(OsStr::to_str) {
+        Some("cpp") => ("c++", "-std=c++98"),
+        _ => ("cc", "-std=c11"),
+    };
+    let mut compiler = Command::new(compiler);
     compiler
-        .args(["-std=c11", "-Wall", "-Wextra", "-Werror", "-I"])
+        .args([standard, "-Wall", "-Wextra", "-Werror", "-I"])
         .arg(root().join("include"))
         .arg(source)
         .arg(env!("SECONDCOOP_NUMBERS_ARCHIVE"))
@@ -34,14 +41,21 @@ fn build(source: &Path) -> PathBuf {
     program
 }
 
-fn build_and_run(source: &Path) -> Output {
-    let program = build(source);
+fn build_and_run(source: &str) -> Output {
+    let program = build(&root().join(source));
     Command::new(program).output().expect("the program runs")
+}
+
+/// A program of the tests that must find nothing wrong.
+fn finds_nothing(source: &str) {
+    let output = build_and_run(&format!("rust/tests/{source}"));
+    let text = String::from_utf8_lossy(&output.stdout);
+    assert!(output.status.success(), "wrong: {text}");
 }
 
 #[test]
 fn job_a_is_planned() {
-    let output = build_and_run(&root().join("examples/plan_job_a.c"));
+    let output = build_and_run("examples/plan_job_a.c");
     let text = String::from_utf8_lossy(&output.stdout);
     assert!(output.status.success(), "{text}");
     assert_eq!(
@@ -52,9 +66,17 @@ fn job_a_is_planned() {
 
 #[test]
 fn every_function_is_declared_as_it_is() {
-    let output = build_and_run(&root().join("rust/tests/header.c"));
-    let text = String::from_utf8_lossy(&output.stdout);
-    assert!(output.status.success(), "wrong: {text}");
+    finds_nothing("header.c");
+}
+
+#[test]
+fn every_function_links_in_cpp() {
+    finds_nothing("header.cpp");
+}
+
+#[test]
+fn every_alignment_will_do() {
+    finds_nothing("alignment.c");
 }
 
 #[test]

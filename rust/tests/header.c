@@ -123,10 +123,17 @@ static void text(void)
         wrong++;
 }
 
-_Static_assert(SECONDCOOP_PLAN_BYTES(4) == 42, "plan bytes");
-_Static_assert(SECONDCOOP_ROUTE_WORDS(2 + 2) == 4, "route words");
-_Static_assert(SECONDCOOP_WORK_WORDS(2 + 2, 2 + 3) == 31, "work words");
-_Static_assert(SECONDCOOP_TURNS(2 + 2, 2 + 1) == 24, "turns");
+/* Sizes, also within other expressions. */
+_Static_assert(SECONDCOOP_PLAN_BYTES(0) == 6 && SECONDCOOP_PLAN_BYTES(1) == 15, "plan bytes");
+_Static_assert(2 * SECONDCOOP_PLAN_BYTES(2 + 2) == 84, "plan bytes");
+_Static_assert(SECONDCOOP_PLAN_BYTES(SECONDCOOP_MAX_LANES) == 294918, "plan bytes");
+_Static_assert(2 * SECONDCOOP_ROUTE_WORDS(2 + 2) == 8, "route words");
+_Static_assert(2 * SECONDCOOP_WORK_WORDS(2 + 2, 2 + 3) == 62, "work words");
+_Static_assert(SECONDCOOP_WORK_WORDS(1, 0) == 6, "work words");
+_Static_assert(SECONDCOOP_WORK_WORDS(4096, 32768) == 86017, "work words");
+_Static_assert(SECONDCOOP_TURNS(1, 1) == 2 && SECONDCOOP_TURNS(1, 6) == 12, "turns");
+_Static_assert(2 * SECONDCOOP_TURNS(2 + 2, 2 + 1) == 48, "turns");
+_Static_assert(SECONDCOOP_TURNS(4096, 16) == 131072, "turns");
 
 /* A plan that is refused with a number at a position. */
 static void refused_plan(const char *name, const uint8_t *bytes, size_t length,
@@ -134,6 +141,8 @@ static void refused_plan(const char *name, const uint8_t *bytes, size_t length,
 {
     uint64_t figures[SECONDCOOP_FIGURES];
     secondcoop_check_plan(bytes, length, figures);
+    if (number == SECONDCOOP_NOT_REFUSED)
+        figures[SECONDCOOP_FIRST] = 0;
     expect(name, figures, (const uint64_t[]){number, position, 0, 0}, 4);
 }
 
@@ -144,6 +153,8 @@ static void plan_refusals(void)
                  sizeof (const uint8_t[]){__VA_ARGS__}, number, position)
     REFUSED(SECONDCOOP_BAD_NUMBER, 1, 4, 0x80, 0);
     REFUSED(SECONDCOOP_BAD_PLACE_COUNT, 0, 0, 0);
+    REFUSED(SECONDCOOP_BAD_PLACE_COUNT, 0, 0x81, 0x20, 0);
+    REFUSED(SECONDCOOP_NOT_REFUSED, 0, 0x80, 0x20, 0);
     REFUSED(SECONDCOOP_BAD_LANE_COUNT, 1, 4, 0x81, 0x80, 0x02);
     REFUSED(SECONDCOOP_NOT_A_PLACE, 3, 4, 1, 0, 4, 1);
     REFUSED(SECONDCOOP_BAD_COST, 4, 4, 1, 0, 1, 0xC1, 0x84, 0x3D);
@@ -154,29 +165,32 @@ static void plan_refusals(void)
 
 /* Job A's floor with one argument that is refused. */
 static void refused_call(const char *name, uint32_t goal, size_t anchor_length,
-                         uint32_t first, uint32_t last, uint32_t factor,
-                         size_t route_length, size_t work_length, uint64_t number)
+                         uint32_t second, uint32_t last, uint32_t factor,
+                         size_t route_length, size_t work_length, uint64_t number,
+                         uint64_t position)
 {
-    const uint32_t anchor[] = {first, 5, 3, last}, schedule[] = {factor, 100};
+    const uint32_t anchor[] = {6, second, 3, last}, schedule[] = {factor, 100};
     uint32_t route[4], log[1], work[SECONDCOOP_WORK_WORDS(4, 4)];
     uint64_t figures[SECONDCOOP_PLAN_FIGURES];
     secondcoop_plan(plan_a, sizeof plan_a, 0, goal, anchor, anchor_length, anchor, 0, 0,
                     schedule, 2, 9, route, route_length, log, 1, work, work_length, figures);
-    expect(name, figures, (const uint64_t[]){SECONDCOOP_REFUSED, number, 0, 0, 0, 0, 0, 0}, 8);
+    expect(name, figures,
+           (const uint64_t[]){SECONDCOOP_REFUSED, number, position, 0, 0, 0, 0, 0}, 8);
 }
 
 static void call_refusals(void)
 {
-    refused_call("start or goal", 4, 4, 6, 0, 100, 4, 29, SECONDCOOP_BAD_START_OR_GOAL);
-    refused_call("tables", 3, 3, 6, 0, 100, 4, 29, SECONDCOOP_BAD_TABLES);
-    refused_call("schedule", 3, 4, 6, 0, SECONDCOOP_MIN_FACTOR - 1, 4, 29,
-                 SECONDCOOP_BAD_SCHEDULE);
-    refused_call("schedule", 3, 4, 6, 0, SECONDCOOP_MAX_FACTOR + 1, 4, 29,
-                 SECONDCOOP_BAD_SCHEDULE);
-    refused_call("route memory", 3, 4, 6, 0, 100, 3, 29, SECONDCOOP_SHORT_MEMORY);
-    refused_call("work memory", 3, 4, 6, 0, 100, 4, 28, SECONDCOOP_SHORT_MEMORY);
-    refused_call("anchor at goal", 3, 4, 6, 1, 100, 4, 29, SECONDCOOP_ANCHOR_NOT_0_AT_GOAL);
-    refused_call("anchor on lane", 3, 4, 7, 0, 100, 4, 29, SECONDCOOP_ANCHOR_BREAKS_RULE);
+    refused_call("start or goal", 4, 4, 5, 0, 100, 4, 29, SECONDCOOP_BAD_START_OR_GOAL, 0);
+    refused_call("tables", 3, 3, 5, 0, 100, 4, 29, SECONDCOOP_BAD_TABLES, 0);
+    refused_call("schedule", 3, 4, 5, 0, SECONDCOOP_MIN_FACTOR - 1, 4, 29,
+                 SECONDCOOP_BAD_SCHEDULE, 0);
+    refused_call("schedule", 3, 4, 5, 0, SECONDCOOP_MAX_FACTOR + 1, 4, 29,
+                 SECONDCOOP_BAD_SCHEDULE, 0);
+    refused_call("route memory", 3, 4, 5, 0, 100, 3, 29, SECONDCOOP_SHORT_MEMORY, 0);
+    refused_call("work memory", 3, 4, 5, 0, 100, 4, 28, SECONDCOOP_SHORT_MEMORY, 0);
+    refused_call("anchor at goal", 3, 4, 5, 1, 100, 4, 29, SECONDCOOP_ANCHOR_NOT_0_AT_GOAL, 0);
+    /* The anchor's 6 at place 1 is above cost 2 + 3 on lane 2. */
+    refused_call("anchor on lane", 3, 4, 6, 0, 100, 4, 29, SECONDCOOP_ANCHOR_BREAKS_RULE, 2);
     char printed[32], wanted[32];
     const size_t length = secondcoop_bench_text(plan_a, 0, (uint8_t *)printed, sizeof printed);
     snprintf(wanted, sizeof wanted, "refused %d at 0\n", SECONDCOOP_NOT_A_JOB);

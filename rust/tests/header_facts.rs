@@ -1,6 +1,6 @@
 //! What the C header says beside its declarations: its numbers, the turns
-//! that suffice, a table of zeros, alignment, threads, the sizes of plans and
-//! texts. The stack is measured in `c_programs`.
+//! that suffice, a table of zeros, threads, the bytes of a text. What needs a
+//! C program, as stack and alignment, is in `c_programs`.
 
 use std::collections::BTreeMap;
 use std::fs;
@@ -8,12 +8,11 @@ use std::path::Path;
 use std::thread;
 
 use secondcoop_tests::bench_text::{BENCH_LOG, MOST_BENCH_VERTICES};
-use secondcoop_tests::compare::Case;
 use secondcoop_tests::ffi;
 use secondcoop_tests::generate;
 use secondcoop_tests::jobs::{self, Job};
-use secondcoop_tests::planner::{self, Answer, Memory, HOUSE_SCHEDULE};
-use secondcoop_tests::planners::{self, Library, SecondPlanner};
+use secondcoop_tests::planner::{self, Answer, HOUSE_SCHEDULE};
+use secondcoop_tests::planners::{self, Library};
 use secondcoop_tests::reference::{MOST_COST, MOST_EDGES, MOST_VERTICES};
 
 fn read(path: &str) -> String {
@@ -59,6 +58,20 @@ fn numbers_are_those_of_the_second_planner() {
     ] {
         assert_eq!(header.get(name), Some(&number), "{name}");
     }
+}
+
+/// The table of refusals has its rows in the order in which they count.
+#[test]
+fn the_table_has_its_rows_in_order() {
+    let header = read("include/secondcoop.h");
+    let (_, table) = header.split_once("no. condition").expect("a table");
+    let (table, _) = table.split_once("*/").expect("the table ends");
+    let row = |line: &str| {
+        line.get(23..25)
+            .and_then(|number| number.trim().parse().ok())
+    };
+    let rows: Vec<u32> = table.lines().filter_map(row).collect();
+    assert_eq!(rows, [1, 2, 3, 4, 6, 5, 7, 8, 9, 10, 11, 12, 13, 14]);
 }
 
 /// What the limits let pass, and what is one more is refused.
@@ -139,80 +152,45 @@ fn a_table_of_zeros_passes() {
     assert!(count > 2_000);
 }
 
-/// A list at every address that its elements' alignment permits.
-#[test]
-fn every_alignment_will_do() {
-    let mut checked = 0;
-    jobs::valid_jobs(53, 60, &mut |_, job| {
-        let known = planners::run(&SecondPlanner, job, 0).figures;
-        for shift in 0..8 {
-            let mut bytes = vec![0; shift];
-            bytes.extend(&job.bytes);
-            let shifted = |list: &[u32]| [vec![0; shift], list.to_vec()].concat();
-            let lists = [&job.anchor, &job.guides, &job.schedule].map(|list| shifted(list));
-            let lent = |room: usize| vec![0; room + shift];
-            let (mut route, mut log) = (lent(job.route_room), lent(job.log_room));
-            let mut work = lent(job.work_room);
-            let request = planner::Request {
-                bytes: &bytes[shift..],
-                anchor: &lists[0][shift..],
-                guides: &lists[1][shift..],
-                schedule: &lists[2][shift..],
-                ..job.request()
-            };
-            let memory = Memory {
-                route: &mut route[shift..],
-                log: &mut log[shift..],
-                work: &mut work[shift..],
-            };
-            assert_eq!(ffi::plan(&request, memory), known);
-            checked += 1;
-        }
-    });
-    assert!(checked > 400);
-}
-
 /// Calls in several threads at once give what they give alone.
 #[test]
 fn several_threads_may_call() {
     let mut shared: Vec<Job> = Vec::new();
     jobs::valid_jobs(54, 300, &mut |_, job| shared.push(job.clone()));
-    let alone: Vec<_> = shared
-        .iter()
-        .map(|job| planners::run(&Library, job, 0))
-        .collect();
+    // Every function: numbers, the plan read and written, the call, the text.
+    let all = |job: &Job| {
+        let numbers = [
+            ffi::read_plan_number(&job.bytes, 1),
+            ffi::read_job_number(&job.bytes, 0),
+        ];
+        let [_, _, vertices, edges] = ffi::check_plan(&job.bytes);
+        let mut lists = [(); 3].map(|()| vec![0; edges as usize]);
+        let [tails, heads, costs] = &mut lists;
+        let read = ffi::read_plan(&job.bytes, tails, heads, costs);
+        let mut out = vec![0; job.bytes.len()];
+        let written = ffi::write_plan(vertices as u32, tails, heads, costs, &mut out);
+        assert_eq!(out, job.bytes);
+        let number = ffi::write_plan_number(&mut out, 0, vertices as u32);
+        let text = planners::run_text(&Library, &job.bench_bytes(), 5_000, 0);
+        let outcome = planners::run(&Library, job, 0);
+        (numbers, lists, [read, written, number], text, outcome)
+    };
+    let alone: Vec<_> = shared.iter().map(all).collect();
     thread::scope(|scope| {
         for _ in 0..8 {
             scope.spawn(|| {
                 for (job, outcome) in shared.iter().zip(&alone) {
-                    assert_eq!(planners::run(&Library, job, 0), *outcome);
+                    assert_eq!(all(job), *outcome);
                 }
             });
         }
     });
 }
 
-/// 6 + 9·M bytes are enough for every plan.
+/// The bytes of a text are those that are proved: 35 for each log word, a
+/// route line and an end line; and the bench program has room for them.
 #[test]
-fn plan_bytes_are_enough() {
-    let mut lanes = 0;
-    let mut check = |case: Case, _: Option<ffi::Figures>| {
-        if let Case::CheckPlan { bytes } = case {
-            if let [0, _, _, edges] = ffi::check_plan(&bytes) {
-                assert!(bytes.len() as u64 <= 6 + 9 * edges);
-                lanes = lanes.max(edges);
-            }
-        }
-    };
-    generate::valid_plans(55, 1, &mut check);
-    generate::large_plans(56, &mut check);
-    assert_eq!(lanes, u64::from(MOST_EDGES));
-}
-
-/// The longest text is the one that is proved: 35 bytes for each log word,
-/// a route line and an end line; and the bench program has room for it.
-#[test]
-fn the_longest_text_is_the_proved_one() {
+fn the_bytes_of_a_text_are_the_proved_ones() {
     let longest = numbers()["MAX_TEXT"] as usize;
     let spec = read("crates/job/specs/Texts.antt");
     assert!(spec.contains("maxText = logSize * 35 + (6 + routeSize * 11) + 112\n"));

@@ -325,8 +325,42 @@ fn figures_are_as_many_as_the_header_says() {
     }
 }
 
+/// Sections of a library by `objdump`: name, size and flags of each.
+fn sections(archive: &str) -> Vec<(String, u64, String)> {
+    let output = Command::new("objdump").arg("-h").arg(archive).output();
+    let output = output.expect("objdump runs");
+    assert!(output.status.success());
+    let text = String::from_utf8(output.stdout).expect("plain text");
+    let lines: Vec<&str> = text.lines().collect();
+    let section = |pair: &[&str]| {
+        let words: Vec<&str> = pair[0].split_whitespace().collect();
+        let [index, name, size, ..] = words[..] else {
+            return None;
+        };
+        index.parse::<u32>().ok()?;
+        let size = u64::from_str_radix(size, 16).ok()?;
+        Some((name.into(), size, pair[1].trim().into()))
+    };
+    lines.windows(2).filter_map(section).collect()
+}
+
+/// No section that is loaded can be written: there is no global state.
+#[test]
+fn libraries_have_nothing_to_write() {
+    for (name, archive) in EXPORTS {
+        let sections = sections(archive);
+        let loaded = sections
+            .iter()
+            .filter(|(_, size, flags)| *size > 0 && flags.contains("ALLOC"));
+        assert!(loaded.clone().any(|(_, _, flags)| flags.contains("CODE")));
+        for (section, _, flags) in loaded {
+            assert!(flags.contains("READONLY"), "{name}: {section} {flags}");
+        }
+    }
+}
+
 /// Each library exports the functions of its crate, needs `memset` at most,
-/// and has no data that can be written.
+/// and has no symbol for data that can be written.
 #[test]
 fn libraries_are_as_the_header_says() {
     let mut needed = Vec::new();

@@ -1,7 +1,7 @@
 /* The stack of each function: every call runs on painted memory of its own,
- * and what it painted over is compared with the header's figure, divided by
- * the program's argument. Prints a line for each function; the exit status
- * counts those that went deeper. */
+ * and what it painted over, with a tenth to spare, is compared with the
+ * header's figure divided by the program's argument. Prints a line for each
+ * function; the exit status counts those that went deeper. */
 #define _GNU_SOURCE
 #include <stdio.h>
 #include <stdlib.h>
@@ -10,26 +10,28 @@
 
 #include "secondcoop.h"
 
-enum { STACK = 1 << 20, PAINT = 0xA7, LANES = SECONDCOOP_MAX_LANES };
+enum { STACK = 1 << 20, PAINT = 0xA7, PLACES = SECONDCOOP_MAX_PLACES, LANES = SECONDCOOP_MAX_LANES };
 
 static uint8_t stack[STACK] __attribute__((aligned(64)));
 static ucontext_t caller, callee;
-static void (*function)(void);
+static void (*function)(int);
+static int which;
 static uint8_t *begin;
 
 static void enter(void)
 {
     begin = __builtin_frame_address(0);
-    function();
+    function(which);
 }
 
 /* How far a call goes down. */
-static size_t depth(void (*call)(void))
+static size_t depth(void (*call)(int), int variant)
 {
     /* Not by memset: a call may be the first to bind it. */
     for (volatile uint8_t *at = stack; at < stack + sizeof stack; at++)
         *at = PAINT;
     function = call;
+    which = variant;
     getcontext(&callee);
     callee.uc_stack.ss_sp = stack;
     callee.uc_stack.ss_size = sizeof stack;
@@ -42,111 +44,138 @@ static size_t depth(void (*call)(void))
     return (size_t)(begin - end);
 }
 
-/* A plan of all places and lanes with eight lanes at each place, as lists and
- * as bytes; a schedule of all rounds; memory for all of them. */
+/* A plan of all places and lanes, as lists and as bytes, eight tables, a
+ * schedule of all rounds, and memory for all of them. */
 static uint32_t tails[LANES], heads[LANES], costs[LANES];
 static uint8_t plan[SECONDCOOP_PLAN_BYTES(LANES)];
 static size_t plan_length;
-static uint32_t tables[9 * SECONDCOOP_MAX_PLACES], schedule[2 * SECONDCOOP_MAX_ROUNDS];
-static uint32_t route[SECONDCOOP_MAX_PLACES];
-static uint32_t log_words[SECONDCOOP_TURNS(SECONDCOOP_MAX_PLACES, SECONDCOOP_MAX_ROUNDS)];
-static uint32_t work[SECONDCOOP_WORK_WORDS(SECONDCOOP_MAX_PLACES, LANES)];
+static uint32_t tables[9 * PLACES], schedule[2 * SECONDCOOP_MAX_ROUNDS];
+static uint32_t route[PLACES];
+static uint32_t log_words[SECONDCOOP_TURNS(PLACES, SECONDCOOP_MAX_ROUNDS)];
+static uint32_t work[SECONDCOOP_WORK_WORDS(PLACES, LANES)];
 static uint64_t figures[SECONDCOOP_PLAN_FIGURES];
 static uint8_t text[SECONDCOOP_MAX_TEXT];
-static uint32_t start, goal;
 
 static void fill(void)
 {
     for (uint32_t lane = 0; lane < LANES; lane++) {
         tails[lane] = lane / 8;
-        heads[lane] = lane % SECONDCOOP_MAX_PLACES;
+        heads[lane] = lane % PLACES;
         costs[lane] = lane * 7919 % (SECONDCOOP_MAX_COST + 1);
     }
-    for (size_t at = SECONDCOOP_MAX_PLACES; at < 9 * SECONDCOOP_MAX_PLACES; at++)
+    for (size_t at = PLACES; at < 9 * PLACES; at++)
         tables[at] = (uint32_t)(at * 2654435761u);
     for (size_t at = 0; at < 2 * SECONDCOOP_MAX_ROUNDS; at++)
         schedule[at] = SECONDCOOP_MAX_FACTOR - (uint32_t)(at / 2 * 660);
 }
 
-/* Calls that must not be refused. */
-static int refused;
+/* Calls that had another answer than they should. */
+static int surprises;
 
-static void expect_none(uint64_t refusal)
+static void expect(uint64_t figure, uint64_t wanted)
 {
-    refused |= refusal != SECONDCOOP_NOT_REFUSED;
+    surprises += figure != wanted;
 }
 
-static void write_plan(void)
+static const uint8_t number[] = {0xFF, 0xFF, 0xFF, 0xFF, 0x0F, 0xFF, 0xFF, 0xFF, 0xFF, 0xFF};
+
+/* Variant 0 is accepted, others are refused. */
+static void read_plan_number(int variant)
 {
-    secondcoop_write_plan(SECONDCOOP_MAX_PLACES, tails, LANES, heads, LANES, costs, LANES,
-                          plan, sizeof plan, figures);
-    expect_none(figures[SECONDCOOP_REFUSAL]);
-    plan_length = figures[SECONDCOOP_FIRST];
+    secondcoop_read_plan_number(number, sizeof number, variant ? 5 : 2, figures);
+    expect(figures[SECONDCOOP_REFUSAL], variant ? SECONDCOOP_BAD_NUMBER : 0);
 }
 
-static void check_plan(void)
+static void read_job_number(int variant)
 {
-    secondcoop_check_plan(plan, plan_length, figures);
-    expect_none(figures[SECONDCOOP_REFUSAL]);
+    secondcoop_read_job_number(number, sizeof number, variant ? 5 : 0, figures);
+    expect(figures[SECONDCOOP_REFUSAL], variant ? SECONDCOOP_BAD_NUMBER : 0);
 }
 
-static void read_plan(void)
+static void write_plan_number(int variant)
 {
-    secondcoop_read_plan(plan, plan_length, tails, LANES, heads, LANES, costs, LANES, figures);
-    expect_none(figures[SECONDCOOP_REFUSAL]);
+    secondcoop_write_plan_number(text, variant ? 2 : 3, 0, SECONDCOOP_MAX_COST, figures);
+    expect(figures[SECONDCOOP_REFUSAL], variant ? SECONDCOOP_SHORT_MEMORY : 0);
 }
 
-static const uint8_t number[] = {0xFF, 0xFF, 0xFF, 0xFF, 0x0F};
-
-static void read_plan_number(void)
+static void write_plan(int variant)
 {
-    secondcoop_read_plan_number(number, sizeof number, 2, figures);
-    expect_none(figures[SECONDCOOP_REFUSAL]);
+    secondcoop_write_plan(PLACES, tails, LANES, heads, LANES, costs, LANES,
+                          plan, variant ? 9 : sizeof plan, figures);
+    expect(figures[SECONDCOOP_REFUSAL], variant ? SECONDCOOP_SHORT_MEMORY : 0);
+    if (!variant)
+        plan_length = figures[SECONDCOOP_FIRST];
 }
 
-static void read_job_number(void)
+static void check_plan(int variant)
 {
-    secondcoop_read_job_number(number, sizeof number, 0, figures);
-    expect_none(figures[SECONDCOOP_REFUSAL]);
+    secondcoop_check_plan(plan, plan_length - (variant ? 1 : 0), figures);
+    expect(figures[SECONDCOOP_REFUSAL], variant ? SECONDCOOP_BAD_NUMBER : 0);
 }
 
-static void write_plan_number(void)
+static void read_plan(int variant)
 {
-    secondcoop_write_plan_number(text, sizeof text, 0, SECONDCOOP_MAX_COST, figures);
-    expect_none(figures[SECONDCOOP_REFUSAL]);
+    secondcoop_read_plan(plan, plan_length, tails, LANES, heads, LANES - (variant ? 1 : 0),
+                         costs, LANES, figures);
+    expect(figures[SECONDCOOP_REFUSAL], variant ? SECONDCOOP_SHORT_MEMORY : 0);
 }
 
-static void plan_call(void)
+/* A route over the floor; sixteen rounds that finish at once; no route, since
+ * the bytes are those of a plan without lanes; unfinished at once and after
+ * some turns; refusals 1, 8, 9, 10, 11, 12, 13. */
+enum { PLAN_CALLS = 12 };
+
+static void plan_call(int variant)
 {
-    secondcoop_plan(plan, plan_length, start, goal, tables, SECONDCOOP_MAX_PLACES,
-                    tables + SECONDCOOP_MAX_PLACES, 8 * SECONDCOOP_MAX_PLACES, 8,
-                    schedule, 2 * SECONDCOOP_MAX_ROUNDS, UINT32_MAX,
-                    route, SECONDCOOP_MAX_PLACES,
+    static const uint8_t no_lanes[] = {0x80, 0x20, 0};
+    static const uint32_t endings[PLAN_CALLS] = {
+        SECONDCOOP_ROUTE, SECONDCOOP_ROUTE, SECONDCOOP_NO_ROUTE,
+        SECONDCOOP_UNFINISHED, SECONDCOOP_UNFINISHED, SECONDCOOP_REFUSED,
+        SECONDCOOP_REFUSED, SECONDCOOP_REFUSED, SECONDCOOP_REFUSED,
+        SECONDCOOP_REFUSED, SECONDCOOP_REFUSED, SECONDCOOP_REFUSED};
+    const uint32_t goal = variant == 1 ? 0 : variant == 6 ? PLACES : PLACES - 1;
+    const uint32_t budget = variant == 3 ? 0 : variant == 4 ? 20 : UINT32_MAX;
+    tables[0] = variant == 11 ? UINT32_MAX : 0;
+    tables[PLACES - 1] = variant == 10 ? 1 : 0;
+    schedule[0] = variant == 8 ? 0 : SECONDCOOP_MAX_FACTOR;
+    secondcoop_plan(variant == 2 ? no_lanes : plan,
+                    variant == 2 ? sizeof no_lanes : plan_length - (variant == 5 ? 1 : 0),
+                    0, goal, tables, PLACES, tables + PLACES, 8 * PLACES,
+                    variant == 7 ? 9 : 8, schedule, 2 * SECONDCOOP_MAX_ROUNDS, budget,
+                    route, PLACES - (variant == 9 ? 1 : 0),
                     log_words, sizeof log_words / sizeof *log_words,
                     work, sizeof work / sizeof *work, figures);
-    expect_none(figures[SECONDCOOP_PLAN_ENDING] != SECONDCOOP_ROUTE);
-    expect_none(figures[SECONDCOOP_PLAN_ROUNDS] != SECONDCOOP_MAX_ROUNDS);
+    expect(figures[SECONDCOOP_PLAN_ENDING], endings[variant]);
+    if (variant < 2)
+        expect(figures[SECONDCOOP_PLAN_ROUNDS], SECONDCOOP_MAX_ROUNDS);
 }
 
-/* Job A's floor, sixteen rounds, from place 0 to place 3 and to place 0. */
-static uint8_t job[] = {14, 4, 4, 0, 1, 1, 0, 2, 4, 1, 2, 2, 1, 3, 3, 0, 3, 100, 16,
-                        100, 100, 100, 100, 100, 100, 100, 100, 100, 100, 100, 100,
-                        100, 100, 100, 100, 100, 100, 100, 100, 100, 100, 100, 100,
-                        100, 100, 100, 100, 100, 100, 100, 100, 1,
-                        0, 0, 0, 0, 0, 9, 0, 0};
+/* Job A's floor with sixteen rounds: a route, sixteen rounds that finish at
+ * once, unfinished, refused in the job, in the plan, in its call. */
+enum { TEXTS = 6 };
 
-static void bench_text(void)
+static void bench_text(int variant)
 {
-    const size_t length = secondcoop_bench_text(job, sizeof job, text, sizeof text);
-    expect_none(length > sizeof text || strstr((const char *)text, "end cost") == NULL);
-}
-
-static int deeper;
-
-static void compare(const char *name, size_t used, size_t limit)
-{
-    printf("%s %zu of %zu\n", name, used, limit);
-    deeper += used > limit;
+    static const char *const ends[TEXTS] = {"bound 10000\n", "bound 10000\n", "turns 1\n",
+                                            "refused 14 at 0\n", "refused 4 at 3\n",
+                                            "refused 8 at 0\n"};
+    uint8_t job[] = {14, 4, 4, 0, 1, 1, 0, 2, 4, 1, 2, 2, 1, 3, 3, 0, 3, 100, 16,
+                     100, 100, 100, 100, 100, 100, 100, 100, 100, 100, 100, 100,
+                     100, 100, 100, 100, 100, 100, 100, 100, 100, 100, 100, 100,
+                     100, 100, 100, 100, 100, 100, 100, 100, 1,
+                     0, 0, 0, 0, 0, 9, 0, 0};
+    if (variant == 1)
+        job[16] = 0;
+    if (variant == 2)
+        job[17] = 1;
+    if (variant == 4)
+        job[4] = 4;
+    if (variant == 5)
+        job[15] = 4;
+    const size_t length =
+        secondcoop_bench_text(job, sizeof job - (variant == 3 ? 1 : 0), text, sizeof text);
+    const size_t end = strlen(ends[variant]);
+    surprises += length < end || memcmp(text + length - end, ends[variant], end) != 0;
 }
 
 int main(int count, char **arguments)
@@ -154,36 +183,32 @@ int main(int count, char **arguments)
     const size_t part = count > 1 ? strtoul(arguments[1], NULL, 10) : 1;
     static const struct {
         const char *name;
-        void (*call)(void);
-    } small[] = {
-        {"read_plan_number", read_plan_number},
-        {"read_job_number", read_job_number},
-        {"write_plan_number", write_plan_number},
-        {"write_plan", write_plan},
-        {"check_plan", check_plan},
-        {"read_plan", read_plan},
+        void (*call)(int);
+        int variants;
+        size_t limit;
+    } functions[] = {
+        {"read_plan_number", read_plan_number, 2, SECONDCOOP_STACK},
+        {"read_job_number", read_job_number, 2, SECONDCOOP_STACK},
+        {"write_plan_number", write_plan_number, 2, SECONDCOOP_STACK},
+        {"write_plan", write_plan, 2, SECONDCOOP_STACK},
+        {"check_plan", check_plan, 2, SECONDCOOP_STACK},
+        {"read_plan", read_plan, 2, SECONDCOOP_STACK},
+        {"plan", plan_call, PLAN_CALLS, SECONDCOOP_PLAN_STACK},
+        {"bench_text", bench_text, TEXTS, SECONDCOOP_TEXT_STACK},
     };
+    int deeper = 0;
     fill();
-    for (size_t at = 0; at < sizeof small / sizeof *small; at++)
-        compare(small[at].name, depth(small[at].call), SECONDCOOP_STACK / part);
-    /* A route over the floor, then sixteen rounds that finish at once. */
-    size_t most = 0;
-    for (goal = 4095;; goal = 0) {
-        const size_t used = depth(plan_call);
-        most = used > most ? used : most;
-        if (goal == 0)
-            break;
+    for (size_t at = 0; at < sizeof functions / sizeof *functions; at++) {
+        size_t most = 0;
+        for (int variant = 0; variant < functions[at].variants; variant++) {
+            const size_t used = depth(functions[at].call, variant);
+            most = used > most ? used : most;
+        }
+        const size_t limit = functions[at].limit / part;
+        printf("%s %zu of %zu\n", functions[at].name, most, limit);
+        deeper += most * 10 > limit * 9;
     }
-    compare("plan", most, SECONDCOOP_PLAN_STACK / part);
-    most = 0;
-    for (job[16] = 3;; job[16] = 0) {
-        const size_t used = depth(bench_text);
-        most = used > most ? used : most;
-        if (job[16] == 0)
-            break;
-    }
-    compare("bench_text", most, SECONDCOOP_TEXT_STACK / part);
-    if (refused)
-        printf("a call had another answer than it should\n");
-    return refused ? 100 : deeper;
+    if (surprises)
+        printf("%d calls had another answer than they should\n", surprises);
+    return surprises ? 100 : deeper;
 }

@@ -1,0 +1,136 @@
+/* Lists at every address that their elements permit: each function gives the
+ * same figures and memory wherever its lists lie. The exit status counts the
+ * functions that do not. */
+#include <stdio.h>
+#include <string.h>
+
+#include "secondcoop.h"
+
+enum { PLACES = 16, LANES = 30, BYTES = 256, WORDS = 512, SHIFTS = 16 };
+
+/* Lists of one call, each at a shift of so many elements. */
+static uint8_t byte_memory[3][BYTES + SHIFTS] __attribute__((aligned(64)));
+static uint32_t word_memory[6][WORDS + SHIFTS] __attribute__((aligned(64)));
+static uint64_t figure_memory[SECONDCOOP_PLAN_FIGURES + SHIFTS] __attribute__((aligned(64)));
+static uint8_t *bytes[3];
+static uint32_t *words[6];
+static uint64_t *figures;
+
+static void place(int shift)
+{
+    for (int at = 0; at < 3; at++) {
+        bytes[at] = byte_memory[at] + shift;
+        memset(bytes[at], 0xEE, BYTES);
+    }
+    for (int at = 0; at < 6; at++) {
+        words[at] = word_memory[at] + shift;
+        memset(words[at], 0xEE, WORDS * sizeof *words[at]);
+    }
+    figures = figure_memory + shift;
+    memset(figures, 0xEE, SECONDCOOP_PLAN_FIGURES * sizeof *figures);
+}
+
+/* A ring of places with lanes over one place, as plan bytes in `bytes[0]`. */
+static size_t plan_bytes(void)
+{
+    uint32_t tails[LANES], heads[LANES], costs[LANES];
+    for (uint32_t lane = 0; lane < LANES; lane++) {
+        tails[lane] = lane / 2;
+        heads[lane] = lane / 2 + 1 - (lane % 2 == 0 ? 1 : 0);
+        costs[lane] = 1000 * lane;
+    }
+    uint64_t written[SECONDCOOP_FIGURES];
+    secondcoop_write_plan(PLACES, tails, LANES, heads, LANES, costs, LANES, bytes[0], BYTES,
+                          written);
+    return written[SECONDCOOP_FIRST];
+}
+
+static void numbers(void)
+{
+    secondcoop_write_plan_number(bytes[0], BYTES, 7, 1000000, figures);
+    secondcoop_read_plan_number(bytes[0], BYTES, 7, figures);
+    secondcoop_read_job_number(bytes[0], BYTES, 8, figures + 4);
+}
+
+static void read_plan(void)
+{
+    const size_t length = plan_bytes();
+    secondcoop_read_plan(bytes[0], length, words[0], LANES, words[1], LANES, words[2], LANES,
+                         figures);
+    secondcoop_check_plan(bytes[0], length, figures + 4);
+}
+
+static void write_plan(void)
+{
+    const size_t length = plan_bytes();
+    secondcoop_read_plan(bytes[0], length, words[0], LANES, words[1], LANES, words[2], LANES,
+                         figures);
+    secondcoop_write_plan(PLACES, words[0], LANES, words[1], LANES, words[2], LANES, bytes[1],
+                          BYTES, figures);
+}
+
+static void plan_call(void)
+{
+    const size_t length = plan_bytes();
+    for (uint32_t at = 0; at < PLACES; at++) {
+        words[0][at] = 0;
+        words[1][at] = at * 7919 % 13;
+    }
+    words[2][0] = 300, words[2][1] = 200, words[2][2] = 100, words[2][3] = 100;
+    secondcoop_plan(bytes[0], length, 0, PLACES - 1, words[0], PLACES, words[1], PLACES, 1,
+                    words[2], 4, 1000, words[3], PLACES, words[4], 40,
+                    words[5], SECONDCOOP_WORK_WORDS(PLACES, LANES), figures);
+}
+
+static void bench_text(void)
+{
+    static const uint8_t job[] = {14, 4, 4, 0, 1, 1, 0, 2, 4, 1, 2, 2, 1, 3, 3, 0, 3, 100, 0, 0,
+                                  0, 0, 0, 0};
+    memcpy(bytes[0], job, sizeof job);
+    figures[0] = secondcoop_bench_text(bytes[0], sizeof job, bytes[1], BYTES);
+}
+
+/* All memory of a call. */
+struct memory {
+    uint8_t bytes[3][BYTES];
+    uint32_t words[6][WORDS];
+    uint64_t figures[SECONDCOOP_PLAN_FIGURES];
+};
+
+static void keep(struct memory *memory)
+{
+    for (int at = 0; at < 3; at++)
+        memcpy(memory->bytes[at], bytes[at], BYTES);
+    for (int at = 0; at < 6; at++)
+        memcpy(memory->words[at], words[at], sizeof memory->words[at]);
+    memcpy(memory->figures, figures, sizeof memory->figures);
+}
+
+int main(void)
+{
+    static const struct {
+        const char *name;
+        void (*call)(void);
+    } functions[] = {
+        {"numbers", numbers},     {"read_plan", read_plan},   {"write_plan", write_plan},
+        {"plan", plan_call},      {"bench_text", bench_text},
+    };
+    static struct memory first, other;
+    int wrong = 0;
+    for (size_t at = 0; at < sizeof functions / sizeof *functions; at++) {
+        for (int shift = 0; shift < SHIFTS; shift++) {
+            struct memory *memory = shift == 0 ? &first : &other;
+            place(shift);
+            functions[at].call();
+            keep(memory);
+            if (shift > 0 && memcmp(&first, &other, sizeof first) != 0) {
+                printf("%s differs at shift %d\n", functions[at].name, shift);
+                wrong++;
+            }
+        }
+    }
+    /* The last planner call found a route: the memory compared is no refusal's. */
+    place(0);
+    plan_call();
+    return wrong + (figures[SECONDCOOP_PLAN_ENDING] != SECONDCOOP_ROUTE);
+}
