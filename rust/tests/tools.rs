@@ -6,7 +6,7 @@ use std::fs;
 use std::io::Write as _;
 use std::os::unix::ffi::OsStrExt as _;
 use std::path::{Path, PathBuf};
-use std::process::{Command, Stdio};
+use std::process::{Command, Output, Stdio};
 
 use secondcoop_tests::generate::{self, random_plan};
 use secondcoop_tests::jobs;
@@ -24,7 +24,7 @@ struct Left {
 }
 
 /// Runs a tool with something on standard input.
-fn tool(program: &str, arguments: &[&str], input: &[u8]) -> Left {
+fn output(program: &str, arguments: &[&str], input: &[u8]) -> Output {
     let mut child = Command::new(program)
         .args(arguments)
         .stdin(Stdio::piped())
@@ -34,7 +34,11 @@ fn tool(program: &str, arguments: &[&str], input: &[u8]) -> Left {
         .expect("the tool runs");
     // A tool that reads nothing may have ended by now.
     let _ = child.stdin.take().expect("a pipe").write_all(input);
-    let output = child.wait_with_output().expect("the tool ends");
+    child.wait_with_output().expect("the tool ends")
+}
+
+fn tool(program: &str, arguments: &[&str], input: &[u8]) -> Left {
+    let output = output(program, arguments, input);
     let text = |bytes| String::from_utf8(bytes).expect("plain text");
     Left {
         status: output.status.code().expect("a status"),
@@ -346,10 +350,11 @@ fn standard_input_is_read() {
         let path = example(&format!("{name}.txt"));
         let path = path.to_str().expect("a path");
         for command in ["run", "check", "print", "bytes", "hex", "text"] {
-            let of_file = tool_bytes(&[command, path], b"");
+            let program = env!("CARGO_BIN_EXE_job");
+            let of_file = output(program, &[command, path], b"");
             let text = fs::read(path).expect("an example");
-            assert_eq!(tool_bytes(&[command, "-"], &text), of_file);
-            assert_eq!(tool_bytes(&[command], &text), of_file);
+            assert_eq!(output(program, &[command, "-"], &text), of_file);
+            assert_eq!(output(program, &[command], &text), of_file);
         }
     }
     let path = example("plan-a.txt");
@@ -363,20 +368,6 @@ fn standard_input_is_read() {
     let no_file = job(&["check", "no such file"], "");
     assert_eq!((no_file.status, no_file.out.as_str()), (4, ""));
     assert!(no_file.err.starts_with("no such file: "));
-}
-
-/// Status and output of `job`, which may be bytes.
-fn tool_bytes(arguments: &[&str], input: &[u8]) -> (Option<i32>, Vec<u8>) {
-    let mut child = Command::new(env!("CARGO_BIN_EXE_job"))
-        .args(arguments)
-        .stdin(Stdio::piped())
-        .stdout(Stdio::piped())
-        .stderr(Stdio::null())
-        .spawn()
-        .expect("the tool runs");
-    let _ = child.stdin.take().expect("a pipe").write_all(input);
-    let output = child.wait_with_output().expect("the tool ends");
-    (output.status.code(), output.stdout)
 }
 
 #[test]
