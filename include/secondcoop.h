@@ -250,12 +250,13 @@ enum {
  *   65536 * table (0 is the anchor, 1 the first guide); turns past its end
  *   are not logged. No call has more turns than its allowance, nor more than
  *   2 * V times its rounds.
- * - work, at least 5V+1+2M words (SECONDCOOP_WORK_WORDS): V+1 first lane numbers (the last is M),
- *   M heads, M costs, then four words for each place: its cost g, its cost
- *   when last expanded, its predecessor, and its marks as a sum, as the
- *   search left them. Marks: 1 expanded for a guide and 2 for the anchor, in
- *   the last round that began; 4 open, it may be expanded; 8 held, its cost
- *   fell after the anchor expanded it, and it waits for the next round.
+ * - work, at least 5V+1+2M words (SECONDCOOP_WORK_WORDS): V+1 first lane
+ *   numbers (the last is M), M heads, M costs, then four words for each
+ *   place: its cost g, its cost when last expanded, its predecessor, and its
+ *   marks as a sum, as the search left them. Marks: 1 expanded for a guide
+ *   and 2 for the anchor, in the last round that began; 4 open, it may be
+ *   expanded; 8 held, its cost fell after the anchor expanded it, and it
+ *   waits for the next round.
  */
 void secondcoop_plan(const uint8_t *bytes, size_t bytes_length,
                      uint32_t start, uint32_t goal,

@@ -123,7 +123,7 @@ pub fn bench_text_by(bytes: &[u8], plan: impl FnOnce(&Request, Memory) -> Answer
     };
     let mut route = vec![0; vertices];
     let mut log = vec![0; BENCH_LOG];
-    let mut work = vec![0; 5 * vertices + 1 + 2 * edges];
+    let mut work = vec![0; planner::work_words(vertices, edges)];
     let memory = Memory {
         route: &mut route,
         log: &mut log,

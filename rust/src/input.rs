@@ -12,7 +12,7 @@ const BYTE_ORDER_MARK: &[u8] = b"\xEF\xBB\xBF";
 /// What stands in a file.
 #[derive(Clone, Debug, PartialEq, Eq)]
 pub enum Input {
-    /// Lines of the text form, each with a newline at its end.
+    /// Lines of the text form, parted by newlines alone.
     Lines(String),
     /// Bytes that stand there as hexadecimal pairs.
     Pairs(Vec<u8>),
@@ -85,12 +85,15 @@ fn is_plain(byte: u8) -> bool {
     matches!(byte, b'\t'..=b'\r') || !byte.is_ascii_control()
 }
 
-/// Whether a text with control characters cannot be a job that is accepted:
-/// a job has a guide count from 0 to 8, and one that begins with white space
-/// or small letters has a plan too short for its lanes.
+/// Whether a text that begins with a line's word, after comments or not, and
+/// has control characters cannot be an accepted job. One without a byte from
+/// 0 to 8 has no guide count. One with the word at its beginning has a plan
+/// too short for its lanes, and white space of ASCII before it, as numbers 9
+/// to 13 or 32, only makes that worse or its tails no places.
 fn is_no_job(lines: &str) -> bool {
-    let commented = lines.trim_start().starts_with('#');
-    !commented || lines.bytes().all(|byte| byte > 8)
+    let begin = lines.trim_start_matches(|letter| matches!(letter, '\t'..='\r' | ' '));
+    let at_once = begin.starts_with(|letter: char| letter.is_ascii_lowercase());
+    at_once || lines.bytes().all(|byte| byte > 8)
 }
 
 /// The first character that no text has.

@@ -52,7 +52,7 @@ impl Job {
             budget,
             route_room: vertices,
             log_room: 64,
-            work_room: 5 * vertices + 1 + 2 * plan.edges(),
+            work_room: planner::work_words(vertices, plan.edges()),
         }
     }
 
@@ -694,7 +694,7 @@ pub fn damage_job(random: &mut Random, plan: &Plan, job: &mut Job, number: u32) 
             if random.one_in(2) {
                 job.route_room = random.index(vertices as usize);
             } else {
-                let needed = 5 * vertices as usize + 1 + 2 * plan.edges();
+                let needed = planner::work_words(vertices as usize, plan.edges());
                 job.work_room = if random.one_in(2) {
                     needed - 1
                 } else {

@@ -13,6 +13,11 @@ pub const NONE: u32 = u32::MAX;
 /// W1 and W2 of each round where the schedule is empty.
 pub const HOUSE_SCHEDULE: [u32; 12] = [500, 500, 300, 300, 200, 200, 150, 150, 120, 120, 100, 100];
 
+/// The words of work memory that a call needs.
+pub fn work_words(vertices: usize, edges: usize) -> usize {
+    5 * vertices + 1 + 2 * edges
+}
+
 /// What one planner call is asked: the paper's job. The guide sheets stand
 /// one after another, the schedule has W1 and W2 of each round.
 #[derive(Clone, Copy, Debug)]
@@ -613,7 +618,7 @@ fn plan_with<O: Onlooker>(request: &Request, memory: Memory, onlooker: O) -> Ans
     if bad_schedule(schedule) {
         return refused(10, 0);
     }
-    let needed = 5 * vertices + 1 + 2 * edges;
+    let needed = work_words(vertices, edges);
     if route.len() < vertices || work.len() < needed {
         return refused(11, 0);
     }

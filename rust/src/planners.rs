@@ -17,6 +17,13 @@ pub trait Planner {
     fn bench_text(&self, job: &[u8], text: &mut [u8]) -> usize;
 }
 
+/// The whole text that a planner prints for a job's bytes.
+pub fn printed(planner: &dyn Planner, job: &[u8]) -> String {
+    let mut text = vec![0; planner.bench_text(job, &mut [])];
+    planner.bench_text(job, &mut text);
+    String::from_utf8(text).expect("a printed text has plain letters")
+}
+
 /// The library under test.
 pub struct Library;
 

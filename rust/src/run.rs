@@ -3,8 +3,8 @@
 //! planner call.
 
 use crate::bench_text::{answer_text, refused};
-use crate::planner::{Answer, Memory, Request, HOUSE_SCHEDULE};
-use crate::planners::Planner;
+use crate::planner::{work_words, Answer, Memory, Request, HOUSE_SCHEDULE};
+use crate::planners::{printed, Planner};
 use crate::reference::{MOST_EDGES, MOST_VERTICES};
 use crate::refusals::Taker;
 use crate::text::TextJob;
@@ -12,16 +12,9 @@ use crate::text::TextJob;
 /// What a planner prints for a job.
 pub fn run(planner: &dyn Planner, job: &TextJob) -> String {
     match Taker::of(job) {
-        Taker::Bench => bench(planner, &job.bytes()),
+        Taker::Bench => printed(planner, &job.bytes()),
         Taker::Call => call(planner, job),
     }
-}
-
-/// What the bench program prints for a job's bytes.
-fn bench(planner: &dyn Planner, bytes: &[u8]) -> String {
-    let mut text = vec![0; planner.bench_text(bytes, &mut [])];
-    planner.bench_text(bytes, &mut text);
-    String::from_utf8(text).expect("a printed text has plain letters")
 }
 
 /// The planner call that a job asks, with memory enough for all that it can
@@ -49,7 +42,7 @@ pub fn call(planner: &dyn Planner, job: &TextJob) -> String {
     let turns = (factors * places).min(lines.allowance.says as usize);
     let mut route = vec![0; places];
     let mut log = vec![0; turns];
-    let mut work = vec![0; 5 * places + 1 + 2 * lanes];
+    let mut work = vec![0; work_words(places, lanes)];
     let request = Request {
         bytes: &lines.plan.bytes().expect("a job's plan has bytes"),
         start: lines.start.says,

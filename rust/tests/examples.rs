@@ -5,7 +5,7 @@ use std::fs;
 use std::path::PathBuf;
 use std::process::Command;
 
-use secondcoop_tests::planners::{Library, Planner, SecondPlanner};
+use secondcoop_tests::planners::{printed, Library, SecondPlanner};
 use secondcoop_tests::refusals::{remarks, Taker};
 use secondcoop_tests::text::{PlanLines, TextJob};
 
@@ -33,13 +33,6 @@ fn read(name: &str, form: &str) -> Vec<u8> {
 
 fn read_text(name: &str, form: &str) -> String {
     String::from_utf8(read(name, form)).expect("a text")
-}
-
-/// What a planner prints for a job's bytes.
-fn printed(planner: &dyn Planner, bytes: &[u8]) -> String {
-    let mut text = vec![0; planner.bench_text(bytes, &mut [])];
-    planner.bench_text(bytes, &mut text);
-    String::from_utf8(text).expect("a text")
 }
 
 #[test]

@@ -355,6 +355,24 @@ fn libraries_have_nothing_to_write() {
         assert!(loaded.clone().any(|(_, _, flags)| flags.contains("CODE")));
         for (section, _, flags) in loaded {
             assert!(flags.contains("READONLY"), "{name}: {section} {flags}");
+            assert!(!section.contains("eh_frame"), "{name} has unwind tables");
+        }
+    }
+}
+
+/// All relocations are relative to the code: it is position-independent.
+#[test]
+fn libraries_are_position_independent() {
+    for (name, archive) in EXPORTS {
+        let output = Command::new("objdump").arg("-r").arg(archive).output();
+        let text = String::from_utf8(output.expect("objdump runs").stdout);
+        let text = text.expect("plain text");
+        let words = text.split_whitespace();
+        let kinds: Vec<&str> = words.filter(|word| word.starts_with("R_X86_64")).collect();
+        assert!(!kinds.is_empty(), "{name} calls and reads its own parts");
+        for kind in kinds {
+            let relative = ["R_X86_64_PC32", "R_X86_64_PLT32"].contains(&kind);
+            assert!(relative, "{name}: {kind}");
         }
     }
 }

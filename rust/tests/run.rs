@@ -6,18 +6,11 @@ use secondcoop_tests::generate;
 use secondcoop_tests::guarded::GUARD;
 use secondcoop_tests::input::Input;
 use secondcoop_tests::jobs::{self, Job};
-use secondcoop_tests::planners::{self, kind_of_text, Library, Planner, SecondPlanner, KINDS};
+use secondcoop_tests::planners::{self, kind_of_text, Library, SecondPlanner, KINDS};
 use secondcoop_tests::random::Random;
 use secondcoop_tests::refusals::{remarks, Taker};
 use secondcoop_tests::run;
 use secondcoop_tests::text::{pairs_text, TextJob};
-
-/// What the bench program prints, by the library.
-fn bench_text(bytes: &[u8]) -> String {
-    let mut text = vec![0; Library.bench_text(bytes, &mut [])];
-    Library.bench_text(bytes, &mut text);
-    String::from_utf8(text).unwrap()
-}
 
 /// What the planner call of a job gives, printed.
 fn call_text(job: &Job) -> String {
@@ -66,7 +59,7 @@ fn the_bench_programs_words_within_its_limits() {
         let job = TextJob::of_bytes(bytes);
         let printed = run::run(&Library, &job);
         if Taker::of(&job) == Taker::Bench {
-            assert_eq!(printed, bench_text(bytes), "{job}");
+            assert_eq!(printed, planners::printed(&Library, bytes), "{job}");
         }
         assert_eq!(printed, run::run(&SecondPlanner, &job), "{job}");
         kinds[remarks_agree(&job, Taker::of(&job), &printed)] += 1;

@@ -9,6 +9,7 @@ use std::path::{Path, PathBuf};
 use std::process::{Command, Output, Stdio};
 
 use secondcoop_tests::generate::{self, random_plan};
+use secondcoop_tests::input::Input;
 use secondcoop_tests::jobs;
 use secondcoop_tests::planners::SecondPlanner;
 use secondcoop_tests::random::Random;
@@ -191,6 +192,9 @@ fn line_ends_and_stray_characters() {
     let (_, stray) = stray.split_once("6.\n").expect("a comment");
     let words = "standard input: line 7: the control character 00 stands in no text\n";
     assert_eq!(job(&["run"], stray), left(4, "", words));
+    // White space beyond ASCII may be a number of a job.
+    let bytes = b"\xA0 \xA0\tlane \0";
+    assert_eq!(Input::of(bytes), Ok(Input::Bytes(bytes.to_vec())));
 }
 
 /// A job whose bytes look like a comment and a line is planned: its plan has
@@ -473,21 +477,17 @@ fn jobs_beyond_the_bench_program_are_planned() {
     }
     // Its refusals are those of the planner call.
     large.anchor[1] = 1;
-    let refused = job(&["run"], large.bench_bytes());
-    assert_eq!(
-        (refused.status, refused.out.as_str()),
-        (3, "refused 12 at 0\n")
-    );
-    assert!(refused
-        .err
-        .contains("the anchor table has 1 at the goal 1, not 0 (refusal 12)"));
+    let goal = large.bench_bytes();
     large.schedule = vec![100; 34];
-    let refused = job(&["run"], large.bench_bytes());
-    assert_eq!(
-        (refused.status, refused.out.as_str()),
-        (3, "refused 10 at 0\n")
-    );
-    assert!(refused
-        .err
-        .contains("there are 17 rounds, over 16 (refusal 10)"));
+    let rounds = large.bench_bytes();
+    for (bytes, number, words) in [
+        (goal, 12, "the anchor table has 1 at the goal 1, not 0"),
+        (rounds, 10, "there are 17 rounds, over 16"),
+    ] {
+        let refused = job(&["run"], bytes);
+        let printed = format!("refused {number} at 0\n");
+        assert_eq!((refused.status, refused.out), (3, printed));
+        let words = format!("{words} (refusal {number})\n");
+        assert!(refused.err.contains(&words), "{}", refused.err);
+    }
 }
