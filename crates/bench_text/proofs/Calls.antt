@@ -13,7 +13,7 @@ use Rattle.job.specs.declared.Front.{Front}
 use Rattle.job.specs.declared.JobRead.the-variants.{Accepted}
 use Rattle.job.specs.Reading.{jobRead, planOf, tableCount}
 use Rattle.job.specs.Numbers.{values}
-use Rattle.job.specs.Asked.{scheduleOf, tablesOf, anchorOf, sheetsOf, callWith, callAsked}
+use Rattle.job.specs.Asked.{factorsOf, tablesOf, anchorOf, sheetsOf, callWith, callAsked}
 use Rattle.job.specs.Printed.{printed, callText}
 use Rattle.job.proofs.Accepted.{accepted-ready}
 use Rattle.job.specs.Texts.{Texts}
@@ -55,8 +55,8 @@ module _ (s : List ℕ) (f : Front) (v : ℕ) (h : jobRead s ≡ Accepted f v) w
   -- its factors and its tables, stored at the fronts of the arrays for them
   pub factors-stored :
       (new : List ℕ) → new ≡ sets (replicate 32 0) 0 (values (2 * f .«round_count») s (f .«factors_at»)) →
-      Prefix (2 * f .«round_count») new (scheduleOf s f)
-  unfolding scheduleOf
+      Prefix (2 * f .«round_count») new (factorsOf s f)
+  unfolding factorsOf
   factors-stored new stored =
       stored-prefix (replicate 32 0) new _ _ (accepted-ready s f v h .fits .schedule) factors-few stored
 

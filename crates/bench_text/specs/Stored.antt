@@ -5,10 +5,10 @@ use mathlib.Core.List.{List}
 use Rattle.job.specs.declared.Front.{Front}
 use Rattle.job.specs.declared.JobRead.the-variants.{Accepted}
 use Rattle.job.specs.Reading.{jobRead}
-use Rattle.job.specs.Asked.{scheduleOf, tablesOf}
+use Rattle.job.specs.Asked.{factorsOf, tablesOf}
 
 -- an accepted job, with its schedule and its tables
 pub record Stored (s : List ℕ) (f : Front) (v : ℕ) (factors numbers : List ℕ) : Type 0 where
   pub accepted : jobRead s ≡ Accepted f v
-  pub schedule : factors ≡ scheduleOf s f
+  pub schedule : factors ≡ factorsOf s f
   pub tables : numbers ≡ tablesOf s f v

@@ -7,10 +7,10 @@ use Rattle.graph.specs.Rows
 use Rattle.graph.specs.Plan.{leastAfter, past, nextEdge, before, onward, edgesFrom, header, afterHeader, decode}
 use Rattle.graph.specs.Lists.{over, edgesIn}
 use Rattle.search.specs.Walk.{edgeCost, onEdge, costFrom, routeCost}
-use Rattle.search.specs.Job.{guides, heuristic, factors, house, unreached, noPred, routeEnd, fresh, origin, atFirst, at}
+use Rattle.search.specs.Job.{cyclic, guides, heuristic, factors, house, unreached, noPred, routeEnd, fresh, origin, atFirst, at}
 use Rattle.search.specs.Turn.{key, offered, better, leastFrom, least, stepOne, candidate, choose, marked, lowered, relax, relaxAll, expand}
 use Rattle.search.specs.Rounds.{firstTurn, nextTurn, turned, ended, inHand, step, choice, turn, trace, traced, improves, costOr, reopened, endRound, onFinished, settle, settled, begin, onDue, advance, run, moments, search}
-use Rattle.search.specs.Call.{inForce, outOfRange, rising, pairs, row, first, endsRow, tablesRow, scheduleRow, memoryRow, goalRow, edgesRow, faultIn, faultOf, tables, jobIn, jobFrom, jobOf}
+use Rattle.search.specs.Call.{inForce, scheduleOf, outOfRange, rising, pairs, row, first, endsRow, tablesRow, scheduleRow, memoryRow, goalRow, edgesRow, faultIn, faultOf, planEdges, tables, jobIn, jobFrom, jobOf}
 use Rattle.search.specs.Outcome.{bound, summary, cutShort, answerAt, answerOf, figures, routeWords, routeAfter, logWord, logAfter, edgesBelow, firstEdges, markWord, vertexWords, workWords, outcome, answerIn, answer, memoryIn, memoryAfter}
 use Rattle.job.proofs.JobA.{prints-A}
 use Rattle.cases.specs.Cases.{Cases}
@@ -20,7 +20,7 @@ use Rattle.cases.proofs.TwoVertices.{two-vertices}
 use Rattle.cases.proofs.StartIsGoal.{start-is-goal}
 
 computed : Cases × Apart
-unfolding Number.decode more answered read planGroups vertexCountRows edgeCountRows tailRows headRows costRows through throughAll Rows.take taking leastAfter past nextEdge before onward edgesFrom header afterHeader decode over edgesIn edgeCost onEdge costFrom routeCost guides heuristic factors house unreached noPred routeEnd fresh origin atFirst at key offered better leastFrom least stepOne candidate choose marked lowered relax relaxAll expand firstTurn nextTurn turned ended inHand step choice turn trace traced improves costOr reopened endRound onFinished settle settled begin onDue advance run moments search inForce outOfRange rising pairs row first endsRow tablesRow scheduleRow memoryRow goalRow edgesRow faultIn faultOf tables jobIn jobFrom jobOf bound summary cutShort answerAt answerOf figures routeWords routeAfter logWord logAfter edgesBelow firstEdges markWord vertexWords workWords outcome answerIn answer memoryIn memoryAfter
+unfolding Number.decode more answered read planGroups vertexCountRows edgeCountRows tailRows headRows costRows through throughAll Rows.take taking leastAfter past nextEdge before onward edgesFrom header afterHeader decode over edgesIn edgeCost onEdge costFrom routeCost cyclic guides heuristic factors house unreached noPred routeEnd fresh origin atFirst at key offered better leastFrom least stepOne candidate choose marked lowered relax relaxAll expand firstTurn nextTurn turned ended inHand step choice turn trace traced improves costOr reopened endRound onFinished settle settled begin onDue advance run moments search inForce scheduleOf outOfRange rising pairs row first endsRow tablesRow scheduleRow memoryRow goalRow edgesRow faultIn faultOf planEdges tables jobIn jobFrom jobOf bound summary cutShort answerAt answerOf figures routeWords routeAfter logWord logAfter edgesBelow firstEdges markWord vertexWords workWords outcome answerIn answer memoryIn memoryAfter
 computed = (
   record {
     job-A = record { says = refl; leaves = refl };

@@ -6,8 +6,8 @@ use lib.ListN.{length}
 use Rattle.graph.specs.Plan
 use Rattle.graph.specs.Plan.{decode, sizes}
 use Rattle.graph.specs.Lists.{none, readAs, readAnswer}
-use Rattle.search.specs.Job.{Job}
-use Rattle.search.specs.Rounds.{State, step, endRound, onFinished, settle, settled}
+use Rattle.search.specs.Job.{State, Job}
+use Rattle.search.specs.Rounds.{step, endRound, onFinished, settle, settled}
 use Rattle.search.specs.Call.{Memory, Call, faultIn, faultOf}
 use Rattle.search.specs.Outcome.{Figures, figures, answerIn, answer, memoryIn, memoryAfter}
 use Rattle.cases.specs.Cases.{HandsOver, PlanRefused}

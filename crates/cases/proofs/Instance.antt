@@ -9,7 +9,7 @@ use Rattle.graph.specs.Rows.{vertexCountRows, edgeCountRows, tailRows, headRows
 use Rattle.graph.specs.Plan.{leastAfter, past, nextEdge, before, onward, edgesFrom, header, afterHeader, decode}
 use Rattle.graph.specs.Lists.{none}
 use Rattle.search.specs.Walk.{Walk}
-use Rattle.search.specs.Call.{inForce, outOfRange, rising, row, first, endsRow, tablesRow, scheduleRow, memoryRow, goalRow, edgesRow, faultIn, faultOf, jobIn, jobFrom, jobOf}
+use Rattle.search.specs.Call.{inForce, scheduleOf, outOfRange, rising, row, first, endsRow, tablesRow, scheduleRow, memoryRow, goalRow, edgesRow, faultIn, faultOf, jobIn, jobFrom, jobOf}
 use Rattle.search.specs.Outcome.{Figures, outcome, answer, memoryAfter}
 use Rattle.search.specs.Guarantee.{Guarantee}
 use Rattle.search.proofs.Guarantee.{guaranteed}
@@ -18,7 +18,7 @@ use Rattle.cases.specs.Instance.{Instance}
 use Rattle.cases.proofs.Cases.{all-cases}
 
 admits : faultOf (jobA 100) ≡ none
-unfolding Number.decode answered read planGroups vertexCountRows edgeCountRows tailRows headRows costRows through throughAll Rows.take taking leastAfter past nextEdge before onward edgesFrom header afterHeader decode inForce outOfRange rising row first endsRow tablesRow scheduleRow memoryRow goalRow edgesRow faultIn faultOf
+unfolding Number.decode answered read planGroups vertexCountRows edgeCountRows tailRows headRows costRows through throughAll Rows.take taking leastAfter past nextEdge before onward edgesFrom header afterHeader decode inForce scheduleOf outOfRange rising row first endsRow tablesRow scheduleRow memoryRow goalRow edgesRow faultIn faultOf
 admits = refl
 
 holds : Guarantee (jobOf (jobA 100)) 100 (outcome (jobA 100)) (answer (jobA 100)) (memoryAfter (jobA 100))

@@ -14,8 +14,8 @@ use Rattle.search.specs.declared.Vertex.{Vertex}
 use Rattle.search.specs.declared.Step.{Step}
 use Rattle.search.specs.declared.Step.the-variants.{Finished, Due}
 use Rattle.search.specs.Walk.{routeCost, costFrom}
-use Rattle.search.specs.Job.{Job, guides, unreached, fresh, origin, atFirst, at}
-use Rattle.search.specs.Rounds.{State, Stand, firstTurn, ended, step, trace, traced, improves, costOr, reopened, endRound, onFinished, settle, begin, run, moments, search}
+use Rattle.search.specs.Job.{State, Job, guides, unreached, fresh, origin, atFirst, at}
+use Rattle.search.specs.Rounds.{Stand, firstTurn, ended, step, trace, traced, improves, costOr, reopened, endRound, onFinished, settle, begin, run, moments, search}
 use Rattle.search.specs.Call.{Call, faultOf, jobIn, jobFrom, jobOf}
 use Rattle.search.specs.Outcome.{bound, summary, answerAt, answerOf, figures, routeWords, routeAfter, logAfter, outcome, answerIn, memoryIn}
 use Rattle.search.proofs.Tools.{at-set-same}

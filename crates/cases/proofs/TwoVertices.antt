@@ -13,10 +13,10 @@ use Rattle.graph.specs.Plan.{edgesFrom, header, afterHeader, decode}
 use Rattle.graph.specs.Lists.{none, edgesIn}
 use Rattle.search.specs.declared.Factors.{Factors}
 use Rattle.search.specs.declared.Step.the-variants.{Stuck, Due}
-use Rattle.search.specs.Job.{Job, guides, heuristic, factors, house, unreached, noPred, fresh, origin, atFirst, at}
+use Rattle.search.specs.Job.{State, Job, cyclic, guides, heuristic, factors, house, unreached, noPred, fresh, origin, atFirst, at}
 use Rattle.search.specs.Turn.{key, offered, better, leastFrom, least, stepOne, candidate, choose, marked, relaxAll, expand}
-use Rattle.search.specs.Rounds.{State, Stand, Moment, firstTurn, nextTurn, turned, inHand, step, choice, turn, onFinished, begin, onDue, advance, run, moments, search}
-use Rattle.search.specs.Call.{Memory, Call, inForce, pairs, faultOf, tables, jobIn, jobFrom, jobOf}
+use Rattle.search.specs.Rounds.{Stand, Moment, firstTurn, nextTurn, turned, inHand, step, choice, turn, onFinished, begin, onDue, advance, run, moments, search}
+use Rattle.search.specs.Call.{Memory, Call, inForce, scheduleOf, pairs, faultOf, planEdges, tables, jobIn, jobFrom, jobOf}
 use Rattle.search.specs.Outcome.{answerAt, answerOf, figures, routeAfter, logWord, logAfter, edgesBelow, firstEdges, markWord, vertexWords, workWords, outcome, answerIn, memoryIn}
 use Rattle.search.specs.Admitted.{Schedule}
 use Rattle.search.proofs.Admitted.{clear-none}
@@ -26,7 +26,7 @@ use Rattle.cases.proofs.Schedules.{in-force}
 use Rattle.cases.proofs.Ends.{settled-at, handed}
 
 not-refused : (ws : List ℕ) → Schedule ws → (n : ℕ) (m : Memory) → Enough 2 0 m → faultOf (twoVertices ws n m) ≡ none
-unfolding Number.decode answered read planGroups vertexCountRows edgeCountRows through throughAll Rows.take taking edgesFrom header afterHeader decode faultOf
+unfolding Number.decode answered read planGroups vertexCountRows edgeCountRows through throughAll Rows.take taking edgesFrom header afterHeader decode faultOf scheduleOf
 not-refused ws y n m e =
     clear-none (twoVertices ws n m) 2 []
     (record {
@@ -46,7 +46,7 @@ not-refused ws y n m e =
 
 module _ (f : Factors) (fs : List Factors) where
   abbrev job : Job
-  job = record { size = 2; edges = []; start = 0; goal = 1; heuristics = (0 ∷ 0 ∷ []) ∷ []; schedule = f ∷ fs }
+  job = record { size = 2; edges = []; start = 0; goal = 1; heuristics = (0 ∷ 0 ∷ []) ∷ []; schedule = f ∷ fs; pick = cyclic }
 
   -- the state before and after the one turn
   abbrev before : State
@@ -82,7 +82,7 @@ module _ (f : Factors) (fs : List Factors) where
   begins = settled-at job before (length fs) one-left
 
   turns : advance job first ≡ last
-  unfolding advance onDue turn choice choose candidate expand relaxAll marked turned nextTurn firstTurn guides onFinished step stepOne inHand factors heuristic least leastFrom better offered key origin fresh unreached at
+  unfolding advance onDue turn choice cyclic choose candidate expand relaxAll marked turned nextTurn firstTurn guides onFinished step stepOne inHand factors heuristic least leastFrom better offered key origin fresh unreached at
   turns = settled-at job after (length fs) one-left
 
   ended : (m a : ℕ) → last .step ≡ Due m a → ⊥
@@ -93,7 +93,7 @@ module _ (f : Factors) (fs : List Factors) where
   runs n = rw begins (ap (run job n) turns ∙ run-over job last ended n)
 
   turned-once : (n : ℕ) → moments job (suc n) (begin job) ≡ moment ∷ []
-  unfolding moments onDue choice choose candidate
+  unfolding moments onDue choice cyclic choose candidate
   turned-once n = rw begins (ap (λ (z : Stand). moment ∷ moments job n z) turns ∙ ap (λ (ts : List Moment). moment ∷ ts) (moments-over job last ended n))
 
 -- ---- what is handed over
@@ -105,11 +105,11 @@ module _ (n : ℕ) (m : Memory) (f : Factors) (fs : List Factors) (c : Call) (e 
   says = rw (e, b, runs f fs n)
 
   leaves : memoryIn c none ≡ twoVerticesAfter m
-  unfolding memoryIn outcome search routeAfter logAfter logWord workWords firstEdges edgesBelow vertexWords markWord marked origin fresh unreached noPred
+  unfolding planEdges memoryIn outcome search routeAfter logAfter logWord workWords firstEdges edgesBelow vertexWords markWord marked origin fresh unreached noPred
   leaves = rw (e, b, es, lent, runs f fs n, turned-once f fs n)
 
 rounds-of : (ws : List ℕ) → Schedule ws → (n : ℕ) (m : Memory) → (f : Factors) × (fs : List Factors) × (jobOf (twoVertices ws n m) ≡ job f fs)
-unfolding Number.decode answered read planGroups vertexCountRows edgeCountRows through throughAll Rows.take taking edgesFrom header afterHeader decode inForce house pairs tables jobIn jobFrom jobOf
+unfolding Number.decode answered read planGroups vertexCountRows edgeCountRows through throughAll Rows.take taking edgesFrom header afterHeader decode inForce scheduleOf house cyclic pairs tables jobIn jobFrom jobOf
 rounds-of [] y n m = (_, _, refl)
 rounds-of (u ∷ []) y n m = absurd (omega (arith, y .two))
 rounds-of (u ∷ v ∷ ws) y n m = (_, _, refl)

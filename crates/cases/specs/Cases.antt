@@ -6,9 +6,9 @@ use lib.ListN.{length, take, replicate}
 use Rattle.graph.specs.declared.PlanRead.the-variants.{Refused}
 use Rattle.graph.specs.Plan.{decode}
 use Rattle.graph.specs.Plan
-use Rattle.graph.specs.Lists.{over, readAnswer, edgesIn}
+use Rattle.graph.specs.Lists.{over, readAnswer}
 use Rattle.search.specs.Job.{Job, factors, routeEnd, atFirst}
-use Rattle.search.specs.Call.{Memory, Call, jobOf}
+use Rattle.search.specs.Call.{Memory, Call, planEdges, jobOf}
 use Rattle.search.specs.Admitted.{Schedule, Admitted}
 use Rattle.search.specs.Outcome.{Figures, route, noRoute, unfinished, refused, figures, workWords, answer, memoryAfter}
 use Rattle.job.specs.JobA.{planA, PrintsA}
@@ -125,7 +125,7 @@ startAlone c =
     record {
       route = over (c .start ∷ replicate (v - 1) routeEnd) (c .memory .route);
       log = c .memory .log;
-      work = over (workWords v (edgesIn (decode (c .bytes))) (atFirst v (c .start))) (c .memory .work);
+      work = over (workWords v (planEdges c) (atFirst v (c .start))) (c .memory .work);
     }
 
 -- ---- the table

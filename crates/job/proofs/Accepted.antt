@@ -22,7 +22,7 @@ use Rattle.job.specs.declared.JobRead.the-variants.{Accepted, Refused}
 use Rattle.job.specs.Numbers.{endOf}
 use Rattle.job.specs.Front.{maxJobRounds, maxJobGuides, rounds, ends, front}
 use Rattle.job.specs.Reading.{maxJobBytes, maxJobVertices, maxJobEdges, planOf, tableCount, afterTables, afterSizes, afterPlan, afterFront, jobRead}
-use Rattle.job.specs.Asked.{scheduleOf, tablesOf}
+use Rattle.job.specs.Asked.{factorsOf, tablesOf}
 use Rattle.job.proofs.Values.{length-values}
 use Rattle.job.proofs.Following.{whole-following, whole-past, whole-cond}
 
@@ -34,14 +34,14 @@ pub record Rounds (s : List ℕ) (plan end : ℕ) (f : Front) : Type 0 where
   pub to : f .«plan_end» ≡ end
   pub rounds : f .«round_count» ≤ maxJobRounds
   pub guides : f .«guide_count» ≤ maxJobGuides
-  pub schedule : length (scheduleOf s f) ≡ 2 * f .«round_count»
+  pub schedule : length (factorsOf s f) ≡ 2 * f .«round_count»
 
 module _ (s : List ℕ) (plan end : ℕ) (f : Front) where
   whole-as :
       (start goal budget r at g tables next : ℕ) → ltb maxJobRounds r ≡ false → endOf (2 * r) s at ≡ Past next → ltb maxJobGuides g ≡ false →
       Whole (record { «plan_at» = plan; «plan_end» = end; start = start; goal = goal; budget = budget; «round_count» = r; «factors_at» = at; «guide_count» = g; «tables_at» = tables }) ≡ Whole f →
       Rounds s plan end f
-  unfolding scheduleOf
+  unfolding factorsOf
   whole-as start goal budget r at g tables next few all less h =
       let e : record { «plan_at» = plan; «plan_end» = end; start = start; goal = goal; budget = budget; «round_count» = r; «factors_at» = at; «guide_count» = g; «tables_at» = tables } ≡ f = cc in
       let er : r ≡ f .«round_count» = ap (λ (x : Front). x .«round_count») e in
@@ -79,7 +79,7 @@ pub record Fits (s : List ℕ) (f : Front) : Type 0 where
   pub end : f .«plan_end» ≤ length s
   pub rounds : f .«round_count» ≤ maxJobRounds
   pub guides : f .«guide_count» ≤ maxJobGuides
-  pub schedule : length (scheduleOf s f) ≡ 2 * f .«round_count»
+  pub schedule : length (factorsOf s f) ≡ 2 * f .«round_count»
 
 pub front-fits : (s : List ℕ) (f : Front) → front s ≡ Whole f → Fits s f
 unfolding front

@@ -10,8 +10,8 @@ use Rattle.job.specs.Reading.{maxJobVertices, maxJobEdges, planOf, table
 -- ---- what an accepted job holds, besides its plan
 
 -- W1, W2, W1, W2, ..
-unfoldable pub scheduleOf : List ℕ → Front → List ℕ
-scheduleOf s f = values (2 * f .«round_count») s (f .«factors_at»)
+unfoldable pub factorsOf : List ℕ → Front → List ℕ
+factorsOf s f = values (2 * f .«round_count») s (f .«factors_at»)
 
 -- the tables one after another, v numbers each
 unfoldable pub tablesOf : List ℕ → Front → ℕ → List ℕ
@@ -58,4 +58,4 @@ callWith plan f anchor sheets schedule =
     }
 
 unfoldable pub callAsked : List ℕ → Front → ℕ → Call
-callAsked s f v = callWith (planOf s f) f (anchorOf s f v) (sheetsOf s f v) (scheduleOf s f)
+callAsked s f v = callWith (planOf s f) f (anchorOf s f v) (sheetsOf s f v) (factorsOf s f)

@@ -7,7 +7,7 @@ use mathlib.Core.List.{List, [], _∷_}
 use lib.ListN.{length}
 use Rattle.graph.specs.Limits.{maxVertices}
 use Rattle.graph.proofs.Within.{accepted-within}
-use Rattle.search.specs.Job.{factors, house}
+use Rattle.search.specs.Job.{State, factors, house}
 use Rattle.search.specs.Call.{Call, inForce, pairs, jobOf}
 use Rattle.search.specs.Admitted.{Admissible}
 use Rattle.search.proofs.Facts.{Valid, InRange}
@@ -17,7 +17,6 @@ use Rattle.workspace.specs.Layout.{base, Room}
 use Rattle.planner.specs.declared.Query.{Query}
 use Rattle.planner.specs.Carried.{Asking, Carries}
 use Rattle.search.specs.declared.Progress.{Progress}
-use Rattle.search.specs.Rounds.{State}
 use Rattle.search.proofs.Words.{route-kept}
 use Rattle.planner.proofs.Jobs.{Accepted, accepts, job-size, job-edges, job-schedule}
 

@@ -10,8 +10,8 @@ use Rattle.graph.specs.Plan.{accepted, firstAt, edgesFrom, afterHeader, decode,
 use Rattle.graph.specs.Lists.{over, edgesIn}
 use Rattle.search.specs.declared.Vertex.{Vertex}
 use Rattle.search.specs.declared.Progress.{Progress}
-use Rattle.search.specs.Job.{Job, guides, atFirst}
-use Rattle.search.specs.Rounds.{State, Stand, firstTurn, settle, settled, begin}
+use Rattle.search.specs.Job.{State, Job, guides, atFirst}
+use Rattle.search.specs.Rounds.{Stand, firstTurn, settle, settled, begin}
 use Rattle.search.specs.Call.{Call, jobOf}
 use Rattle.search.specs.Outcome.{routeAfter}
 use Rattle.search.proofs.Admitted.{admitted}

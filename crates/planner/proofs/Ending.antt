@@ -9,8 +9,8 @@ use lib.Dec.{ltb}
 use Rattle.search.specs.declared.Vertex.{Vertex}
 use Rattle.search.specs.declared.Progress.{Progress}
 use Rattle.search.specs.declared.Step.the-variants.{Finished}
-use Rattle.search.specs.Job.{Job, guides}
-use Rattle.search.specs.Rounds.{State, ended, step, reopened, endRound}
+use Rattle.search.specs.Job.{State, Job, guides}
+use Rattle.search.specs.Rounds.{ended, step, reopened, endRound}
 use Rattle.search.specs.Call.{Call, jobOf}
 use Rattle.search.specs.Outcome.{routeAfter}
 use Rattle.search.proofs.Admitted.{admitted}

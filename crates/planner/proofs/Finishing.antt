@@ -16,8 +16,8 @@ use Rattle.search.specs.declared.Summary.{Summary}
 use Rattle.search.specs.declared.Answer.{Answer}
 use Rattle.search.specs.declared.Answer.the-variants.{Route, NoRoute, Unfinished}
 use Rattle.search.specs.Bounds.{maxFactor}
-use Rattle.search.specs.Job.{Job, factors, house, routeEnd}
-use Rattle.search.specs.Rounds.{State, Stand}
+use Rattle.search.specs.Job.{State, Job, factors, house, routeEnd}
+use Rattle.search.specs.Rounds.{Stand}
 use Rattle.search.specs.Call.{Call, inForce, pairs, jobOf}
 use Rattle.search.specs.Outcome.{bound, summary, cutShort, answerAt, answerOf}
 use Rattle.search.proofs.Facts.{Valid, InRange}

@@ -18,39 +18,6 @@ use Rattle.planner.specs.declared.Standing.{Standing}
 use Rattle.planner.specs.Reached.{Reaches, Advancing, Advances, Running, Runs}
 use Rattle.planner.specs.Going.{isDue}
 
--- ---- one turn more, at the end
-
-module _ (job : Job) where
-  moments-suc-by :
-      (n : ℕ) (z : Stand) → moments job (suc n) (advance job z) ≡ moments job n (advance job z) ++ moments job 1 (run job n (advance job z)) → Going-on z →
-      moments job (suc (suc n)) z ≡ moments job (suc n) z ++ moments job 1 (run job (suc n) z)
-  moments-suc-by n z ih (over _ f) =
-      rw (moments-over job z f (suc (suc n)), moments-over job z f (suc n), run-over job z f (suc n), moments-over job z f 1) refl
-  moments-suc-by n z ih (due _ m a e) =
-      rw (moments-due job (suc n) z m a e, moments-due job n z m a e, run-due job n z m a e) (ap (λ (ts : List Moment). record { before = z .state; choice = choice job m a (z .state) } ∷ ts) ih)
-
-  pub moments-suc : (n : ℕ) (z : Stand) → moments job (suc n) z ≡ moments job n z ++ moments job 1 (run job n z)
-  unfolding run moments
-  moments-suc zero z = refl
-  moments-suc (suc n) z = moments-suc-by n z (moments-suc n (advance job z)) (going-on z)
-
-  -- where no turn is due after n of them, more make no difference
-  module _ (z : Stand) (n : ℕ) (f : (m a : ℕ) → run job n z .step ≡ Due m a → ⊥) where
-    pub run-stays : (k : ℕ) → run job (k + n) z ≡ run job n z
-    run-stays zero = ap (λ (x : ℕ). run job x z) (omega arith)
-    run-stays (suc k) =
-        ap (λ (x : ℕ). run job x z) (omega arith) ∙ run-suc job (k + n) z ∙ ap (advance job) (run-stays k) ∙ advance-over job (run job n z) f
-
-    pub moments-stay : (k : ℕ) → moments job (k + n) z ≡ moments job n z
-    moments-stay zero = ap (λ (x : ℕ). moments job x z) (omega arith)
-    moments-stay (suc k) =
-        ap (λ (x : ℕ). moments job x z) (omega arith)
-        ∙ moments-suc (k + n) z
-        ∙ ap (λ (y : Stand). moments job (k + n) z ++ moments job 1 y) (run-stays k)
-        ∙ ap (λ (ts : List Moment). moments job (k + n) z ++ ts) (moments-over job (run job n z) f 1)
-        ∙ append-nil (moments job (k + n) z)
-        ∙ moments-stay k
-
 -- ---- the loop
 
 -- the search stands where the turns made so far lead, `left` of the budget being left

@@ -8,9 +8,9 @@ use Rattle.search.specs.declared.Factors.{Factors}
 use Rattle.search.specs.declared.Progress.{Progress}
 use Rattle.search.specs.declared.Step.{Step}
 use Rattle.search.specs.declared.Step.the-variants.{Stuck, Finished, Due}
-use Rattle.search.specs.Job.{Job, factors, house, at}
+use Rattle.search.specs.Job.{State, Job, factors, house, at}
 use Rattle.search.specs.Turn.{least, stepOne}
-use Rattle.search.specs.Rounds.{State, Stand, ended, inHand, step, endRound, onFinished, settle}
+use Rattle.search.specs.Rounds.{Stand, ended, inHand, step, endRound, onFinished, settle}
 use Rattle.search.specs.Call.{Call, inForce, pairs, jobOf}
 use Rattle.search.specs.Bounds.{maxFactor, DueWithin}
 use Rattle.search.proofs.Facts.{InRange}

@@ -10,9 +10,9 @@ use Rattle.search.specs.declared.Factors.{Factors}
 use Rattle.search.specs.declared.Choice.{Choice}
 use Rattle.search.specs.declared.Progress.{Progress}
 use Rattle.search.specs.declared.Step.the-variants.{Due}
-use Rattle.search.specs.Job.{Job, guides, heuristic, factors, house}
+use Rattle.search.specs.Job.{State, Job, guides, heuristic, factors, house}
 use Rattle.search.specs.Turn.{candidate, expand}
-use Rattle.search.specs.Rounds.{State, Stand, Moment, turned, inHand, choice, turn, settle, settled, advance, run, moments}
+use Rattle.search.specs.Rounds.{Stand, Moment, turned, inHand, choice, turn, settle, settled, advance, run, moments}
 use Rattle.search.specs.Call.{Call, inForce, pairs, tables, jobOf}
 use Rattle.search.specs.Outcome.{routeAfter, logWord, logAfter}
 use Rattle.search.specs.Bounds.{maxKey}

@@ -7,7 +7,8 @@ use Rattle.graph.specs.Lists.{none}
 use Rattle.search.specs.declared.Progress.{Progress}
 use Rattle.search.specs.declared.Step.the-variants.{Finished}
 use Rattle.search.specs.Bounds.{DueWithin}
-use Rattle.search.specs.Rounds.{State, Stand, step, endRound, settle}
+use Rattle.search.specs.Job.{State}
+use Rattle.search.specs.Rounds.{Stand, step, endRound, settle}
 use Rattle.search.specs.Call.{Call, faultOf, jobOf}
 use Rattle.search.specs.Outcome.{routeAfter}
 use Rattle.search.proofs.Standing.{Ok}

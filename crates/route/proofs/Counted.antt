@@ -11,8 +11,7 @@ use borrow.Author.Tests.{eq-eqb, ne-eqb}
 use Rattle.graph.specs.declared.Edge.{Edge}
 use Rattle.graph.specs.Lists.{over}
 use Rattle.search.specs.Walk.{Walk, here, along}
-use Rattle.search.specs.Job.{Job, routeEnd}
-use Rattle.search.specs.Rounds.{State}
+use Rattle.search.specs.Job.{State, Job, routeEnd}
 use Rattle.search.specs.Outcome.{routeWords, routeAfter}
 use Rattle.search.proofs.Words.{route-length}
 use Rattle.route.specs.Kept.{upToEnd}

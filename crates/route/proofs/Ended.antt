@@ -14,8 +14,8 @@ use Rattle.search.specs.declared.Progress.{Progress}
 use Rattle.search.specs.declared.RouteCost.{RouteCost}
 use Rattle.search.specs.declared.RouteCost.the-variants.{Broken, Cost}
 use Rattle.search.specs.Walk.{routeCost}
-use Rattle.search.specs.Job.{Job}
-use Rattle.search.specs.Rounds.{State, ended, traced, improves, costOr, endRound}
+use Rattle.search.specs.Job.{State, Job}
+use Rattle.search.specs.Rounds.{ended, traced, improves, costOr, endRound}
 use Rattle.search.specs.Outcome.{routeWords, routeAfter}
 use Rattle.search.proofs.Tools.{same-cases}
 use Rattle.search.proofs.Words.{route-length}
