@@ -1,4 +1,4 @@
--- Laws of the schedule in force: its numbers, row 10, its rounds and their factors.
+-- Laws of the schedule in force: which one it is, row 10, its rounds and their factors.
 use Prim.Native.Nat.{ℕ, zero, suc, _+_, _-_, _*_, _/_, _%_, _≤_, _<_}
 use native.Mathlib.Numerals.{add-one}
 use native.Mathlib.Omega.{arith}
@@ -10,28 +10,20 @@ use lib.Seq.{drop-cons, getD-drop}
 use lib.Dec.{ltb, eqb}
 use borrow.Author.Tests.{lt-ltb, le-ltb, eq-eqb, ne-eqb}
 use Rattle.search.specs.declared.Factors.{Factors}
-use Rattle.search.specs.Job.{house}
 use Rattle.search.specs.Call.{inForce, outOfRange, rising, pairs, row, scheduleRow}
 use Rattle.schedule.specs.Unfit.{unfit, unfitAt}
 
 -- ---- which schedule is in force
 
-pub force-house : (ws : List ℕ) → length ws ≡ 0 → inForce house ws ≡ house
+pub usual-there : (usual ws : List ℕ) → length ws ≡ 0 → usual ≡ inForce usual ws
 unfolding inForce
-force-house [] h = refl
-force-house (w ∷ ws) h = absurd (omega arith)
+usual-there usual [] h = refl
+usual-there usual (w ∷ ws) h = absurd (omega arith)
 
-pub force-given : (ws : List ℕ) → (length ws ≡ 0 → ⊥) → inForce house ws ≡ ws
+pub given-there : (usual ws : List ℕ) → (length ws ≡ 0 → ⊥) → ws ≡ inForce usual ws
 unfolding inForce
-force-given [] h = absurd (h refl)
-force-given (w ∷ ws) h = refl
-
-pub count-house : (ws : List ℕ) → length ws ≡ 0 → 12 ≡ length (inForce house ws)
-unfolding house
-count-house ws h = sym (ap length (force-house ws h))
-
-pub count-given : (ws : List ℕ) → (length ws ≡ 0 → ⊥) → length ws ≡ length (inForce house ws)
-count-given ws h = sym (ap length (force-given ws h))
+given-there usual [] h = absurd (h refl)
+given-there usual (w ∷ ws) h = refl
 
 -- ---- one number
 

@@ -1,4 +1,4 @@
--- `factors` meets its contract: both are numbers of the schedule in force.
+-- `factors` meets its contract: both are numbers of the schedule.
 use native.Mathlib.Omega.{arith}
 use Rattle.schedule.proofs.InForce.{pairs-within, pairs-at}
 use borrow.Author.Needs.{needs}
@@ -8,17 +8,25 @@ use Rattle.schedule.proofs.factors.Tie as tie
 mul-i : tie.Need-mul-i
 mul-i c = search needs
 
-number-requires : tie.Need-number-requires
-number-requires c κs = omega (arith, pairs-within _ _ (c .before .pre))
+mul-w1 : tie.Need-mul-w1
+mul-w1 c = search needs
 
-add-number : tie.Need-add-number
-add-number c = search needs
+shared-slice-read-w1 : tie.Need-shared-slice-read-w1
+shared-slice-read-w1 c = omega (arith, pairs-within _ _ (c .before .pre))
 
-number-requires-2 : tie.Need-number-requires-2
-number-requires-2 c κs = omega (arith, pairs-within _ _ (c .before .before .pre))
+add-w2 : tie.Need-add-w2
+add-w2 c = search needs
+
+mul-w2 : tie.Need-mul-w2
+mul-w2 c = search needs
+
+shared-slice-read-w2 : tie.Need-shared-slice-read-w2
+shared-slice-read-w2 c = omega (arith, pairs-within _ _ (c .before .before .pre))
 
 returns : tie.Need-returns
-returns c = rw (c .before .number .ensures, c .number2 .ensures) (pairs-at _ _ _ (c .before .before .before .pre))
+returns c = pairs-at _ _ _ (c .before .before .pre)
 
 pub factors-spec : {M : Type 1} → statement M
-factors-spec = tie.close (tie.spec mul-i number-requires add-number number-requires-2 returns)
+factors-spec =
+    tie.close
+    (tie.spec mul-i mul-w1 shared-slice-read-w1 add-w2 mul-w2 shared-slice-read-w2 returns)

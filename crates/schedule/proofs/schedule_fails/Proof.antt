@@ -2,38 +2,30 @@
 use Prim.Native.Nat.{_-_}
 use mathlib.Core.Path.{sym, _∙_}
 use native.Mathlib.Omega.{arith}
-use borrow.Author.Needs.{needs}
-use Rattle.search.specs.Job.{house}
-use Rattle.search.specs.Call.{inForce}
 use Rattle.schedule.proofs.InForce.{Fit, fit-first, fit-next, row-long, row-odd, row-unfit, row-fit}
 use Rattle.schedule.proofs.schedule_fails.Statement.{statement}
 use Rattle.schedule.proofs.schedule_fails.Tie as tie
 
 abbrev Inv-loop : tie.InvT-loop
-Inv-loop schedule numbers i₀ i = Fit (inForce house schedule) i
+Inv-loop schedule numbers i₀ i = Fit schedule i
 
 abbrev μ-loop : tie.MeasureT-loop
 μ-loop schedule numbers i₀ i = numbers - i
 
-count-requires : tie.Need-count-requires Inv-loop μ-loop
-count-requires c κs = search needs
-
 returns : tie.Need-returns Inv-loop μ-loop
-returns c = row-long _ (rw (sym (c .before .count .ensures)) (c .if1 .taken))
+returns c = row-long _ (c .if1 .taken)
 
 returns-2 : tie.Need-returns-2 Inv-loop μ-loop
-returns-2 c = row-odd _ (rw (sym (c .before .before .count .ensures)) (c .if2 .taken))
+returns-2 c = row-odd _ (c .if2 .taken)
 
 loop-holds : tie.Need-loop-holds Inv-loop μ-loop
 loop-holds c = fit-first _
 
 unfit-requires : tie.Need-unfit-requires Inv-loop μ-loop
-unfit-requires c κs = omega (arith, c .before .before .before .before .count .ensures)
+unfit-requires c κs = omega arith
 
 returns-3 : tie.Need-returns-3 Inv-loop μ-loop
-returns-3 c =
-    row-unfit _ _ (omega (arith, c .before .before .before .before .before .before .count .ensures)) (c .before .before .before .loop .inv)
-    (sym (c .before .unfit .ensures) ∙ c .if3 .taken)
+returns-3 c = row-unfit _ _ (omega arith) (c .before .before .before .loop .inv) (sym (c .before .unfit .ensures) ∙ c .if3 .taken)
 
 add-i : tie.Need-add-i Inv-loop μ-loop
 add-i c = omega arith
@@ -42,14 +34,10 @@ loop-less : tie.Need-loop-less Inv-loop μ-loop
 loop-less c = omega arith
 
 loop-again : tie.Need-loop-again Inv-loop μ-loop
-loop-again c =
-    fit-next _ _ (omega (arith, c .before .before .before .before .before .before .count .ensures)) (c .before .before .before .loop .inv)
-    (sym (c .before .unfit .ensures) ∙ c .if3 .left)
+loop-again c = fit-next _ _ (omega arith) (c .before .before .before .loop .inv) (sym (c .before .unfit .ensures) ∙ c .if3 .left)
 
 returns-4 : tie.Need-returns-4 Inv-loop μ-loop
-returns-4 c =
-    let e = c .before .before .before .before .count .ensures in
-    row-fit _ _ (omega (arith, c .before .before .before .if1)) (rw (sym e) (c .before .before .if2 .left)) (omega (arith, c .loop-test)) (c .before .loop .inv)
+returns-4 c = row-fit _ _ (omega (arith, c .before .before .before .if1)) (c .before .before .if2 .left) (omega (arith, c .loop-test)) (c .before .loop .inv)
 
 pub schedule-fails-spec : {M : Type 1} → statement M
 schedule-fails-spec =
@@ -57,7 +45,6 @@ schedule-fails-spec =
     (tie.spec
     Inv-loop
     μ-loop
-    count-requires
     returns
     returns-2
     loop-holds
