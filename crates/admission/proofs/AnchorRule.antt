@@ -94,13 +94,13 @@ module _ (v m : ℕ) (s : List ℕ) (at : ℕ) (h : List ℕ) where
         rw (add-one i, sym (p .1))
         record { stored = stored-next v m s at i c more (k .stored); rest = r ∙ ap (edgesRow h (suc i)) (sym (ap edgesIn (f .rest))) }
 
-    pub kept-breaks : t ≡ Breaks → Refused 13 i ≡ verdict v m (edgesRow h 0 (edgesIn (edgesFrom v m s (firstAt at))))
+    pub kept-breaks : t ≡ Breaks → Refused 13 i ≡ verdict v m at (edgesRow h 0 (edgesIn (edgesFrom v m s (firstAt at))))
     unfolding verdict
     kept-breaks q = rw (row-cond, cond-breaks (breaks h (f .edge)) (f .after) (sym is-cond ∙ q))
 
   pub kept-all :
       (i : ℕ) (c : Cursor) → m ≤ i → Kept v m s at h i c →
-      Admitted v m ≡ verdict v m (edgesRow h 0 (edgesIn (edgesFrom v m s (firstAt at))))
+      Admitted v m at ≡ verdict v m at (edgesRow h 0 (edgesIn (edgesFrom v m s (firstAt at))))
   unfolding verdict edgesRow
   kept-all i c all k =
       let l : length (edgesIn (edgesFrom v (m - i) s c)) ≡ m - i = sized-by (edgesFrom v (m - i) s c) v (m - i) (k .stored .good) .1 in

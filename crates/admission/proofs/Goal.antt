@@ -13,8 +13,8 @@ use Rattle.admission.specs.declared.Verdict.{Verdict}
 use Rattle.admission.specs.declared.Verdict.the-variants.{Refused}
 use Rattle.admission.specs.Verdict.{verdict}
 
-module _ (v m : ℕ) (h : List ℕ) (goal : ℕ) (es : List Edge) where
-  pub goal-fails : (getD h goal 0 ≡ 0 → ⊥) → Refused 12 0 ≡ verdict v m (first (row (not (eqb (getD h goal 0) 0)) 12 0 ∷ edgesRow h 0 es ∷ []))
+module _ (v m at : ℕ) (h : List ℕ) (goal : ℕ) (es : List Edge) where
+  pub goal-fails : (getD h goal 0 ≡ 0 → ⊥) → Refused 12 0 ≡ verdict v m at (first (row (not (eqb (getD h goal 0) 0)) 12 0 ∷ edgesRow h 0 es ∷ []))
   unfolding verdict first row
   goal-fails n = rw (ne-eqb (getD h goal 0) 0 n)
 
@@ -24,7 +24,7 @@ module _ (v m : ℕ) (h : List ℕ) (goal : ℕ) (es : List Edge) where
   only (fault n p) = refl
 
   pub goal-holds :
-      (r : Verdict) → getD h goal 0 ≡ 0 → r ≡ verdict v m (edgesRow h 0 es) →
-      r ≡ verdict v m (first (row (not (eqb (getD h goal 0) 0)) 12 0 ∷ edgesRow h 0 es ∷ []))
+      (r : Verdict) → getD h goal 0 ≡ 0 → r ≡ verdict v m at (edgesRow h 0 es) →
+      r ≡ verdict v m at (first (row (not (eqb (getD h goal 0) 0)) 12 0 ∷ edgesRow h 0 es ∷ []))
   unfolding first row
-  goal-holds r z e = rw (eq-eqb (getD h goal 0) 0 z) (e ∙ ap (verdict v m) (sym (only (edgesRow h 0 es))))
+  goal-holds r z e = rw (eq-eqb (getD h goal 0) 0 z) (e ∙ ap (verdict v m at) (sym (only (edgesRow h 0 es))))

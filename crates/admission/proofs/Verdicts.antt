@@ -1,7 +1,7 @@
 -- Laws for the code that decides a call: its rows downwards.
 use Prim.Native.Nat.{ℕ, _+_, _*_, _<_}
 use native.Mathlib.Omega.{arith}
-use mathlib.Core.Path.{_≡_, sym, _∙_}
+use mathlib.Core.Path.{_≡_, sym, ap, _∙_}
 use mathlib.Core.Bool.{Bool, true, false, not, _&&_, _||_}
 use mathlib.Core.List.{List, [], _∷_}
 use lib.ListN.{length, getD}
@@ -15,12 +15,13 @@ use Rattle.graph.specs.Plan.{Decoded, accepted, refused, header, afterHeader, d
 use Rattle.graph.specs.Lists.{Fault, edgesIn}
 use Rattle.graph.proofs.Tests.{or-right, and-true, not-false}
 use Rattle.plan_check.proofs.Checked.{sized-by}
-use Rattle.search.specs.Job.{house}
-use Rattle.search.specs.Call.{inForce, row, first, endsRow, tablesRow, scheduleRow, memoryRow, goalRow, edgesRow, faultIn, faultOf, jobIn, jobFrom, jobOf}
+use Rattle.search.specs.Call.{row, first, endsRow, tablesRow, scheduleRow, memoryRow, goalRow, edgesRow, faultIn, faultOf, planEdges, jobIn, jobFrom, jobOf}
+use Rattle.admission.specs.declared.Query.{Query}
+use Rattle.admission.specs.declared.Lengths.{Lengths}
 use Rattle.admission.specs.declared.Verdict.{Verdict}
 use Rattle.admission.specs.declared.Verdict.the-variants.{Refused}
 use Rattle.admission.specs.Verdict.{verdict}
-use Rattle.admission.specs.Admission.{verdictOf, Decided}
+use Rattle.admission.specs.Admission.{firstEdgeAt, verdictOf, Decided}
 
 -- ---- the rows of a call whose plan was checked
 
@@ -37,13 +38,13 @@ tables-hold count a v g b e f =
     (not-false (eqb a v && eqb g (count * v)) (or-right (ltb 8 count) (not (eqb a v && eqb g (count * v))) (sym e ∙ f))) .0)
 
 module _
-    (s : List ℕ) (start goal : ℕ) (anchor sheets : List ℕ) (count : ℕ) (schedule : List ℕ) (route work v m at : ℕ)
+    (s : List ℕ) (q : Query) (anchor sheets schedule : List ℕ) (lengths : Lengths) (v m at : ℕ)
     (h : header s ≡ Counts v m at) (g : sizes (edgesFrom v m s (firstAt at)) ≡ Sizes v m) where
   abbrev edges : List Edge
   edges = edgesIn (edgesFrom v m s (firstAt at))
 
   abbrev Is : Verdict → Type 0
-  Is r = Decided s start goal anchor sheets count schedule route work r
+  Is r = Decided s q anchor sheets schedule lengths r
 
   accepts : decode s ≡ accepted v edges
   unfolding decode afterHeader
@@ -54,22 +55,41 @@ module _
 
   -- the rows, over the code's tests
   abbrev ends : Bool
-  ends = not (ltb start v && ltb goal v)
+  ends = not (ltb (q .start) v && ltb (q .goal) v)
 
   abbrev tables : Bool
-  tables = ltb 8 count || not (eqb (length anchor) v && eqb (length sheets) (count * v))
+  tables = ltb 8 (q .guides) || not (eqb (length anchor) v && eqb (length sheets) (q .guides * v))
 
   abbrev memory : Bool
-  memory = ltb route v || ltb work (5 * v + 1 + 2 * m)
+  memory = ltb (lengths .route) v || ltb (lengths .work) (5 * v + 1 + 2 * m)
 
   abbrev last : List Fault
-  last = row (not (eqb (getD anchor goal 0) 0)) 12 0 ∷ edgesRow anchor 0 edges ∷ []
+  last = row (not (eqb (getD anchor (q .goal) 0) 0)) 12 0 ∷ edgesRow anchor 0 edges ∷ []
 
   by-rows :
       (r : Verdict) →
-      r ≡ verdict v m (first (row ends 8 0 ∷ row tables 9 0 ∷ scheduleRow (inForce house schedule) ∷ row memory 11 0 ∷ last)) → Is r
-  unfolding verdictOf faultOf faultIn jobOf jobFrom jobIn endsRow tablesRow memoryRow goalRow edgesIn
-  by-rows r e = record { decided = λ budget memory p q. e ∙ sym (rw (accepts, p, q, size)) }
+      r ≡ verdict v m at (first (row ends 8 0 ∷ row tables 9 0 ∷ scheduleRow schedule ∷ row memory 11 0 ∷ last)) → Is r
+  unfolding verdictOf firstEdgeAt planEdges faultOf faultIn jobOf jobFrom jobIn endsRow tablesRow memoryRow goalRow edgesIn
+  by-rows r e =
+      record {
+        decided =
+            λ c k.
+            e
+            ∙ sym
+            (rw (
+              ap decode (k .bytes-is) ∙ accepts,
+              ap header (k .bytes-is) ∙ h,
+              k .schedule-is,
+              k .start-is,
+              k .goal-is,
+              k .anchor-is,
+              k .sheets-is,
+              k .count-is,
+              k .route-is,
+              k .work-is,
+              size,
+            ));
+      }
 
   module _ (b8 : Bool) (e8 : b8 ≡ ends) where
     pub call-8 : b8 ≡ true → Is (Refused 8 0)
@@ -81,7 +101,7 @@ module _
       unfolding verdict first row
       call-9 t = by-rows (Refused 9 0) (rw (sym e8, f8, sym e9, t))
 
-      module _ (f9 : b9 ≡ false) (b10 : Bool) (e10 : row b10 10 0 ≡ scheduleRow (inForce house schedule)) where
+      module _ (f9 : b9 ≡ false) (b10 : Bool) (e10 : row b10 10 0 ≡ scheduleRow schedule) where
         pub call-10 : b10 ≡ true → Is (Refused 10 0)
         unfolding verdict first row
         call-10 t = by-rows (Refused 10 0) (rw (sym e8, f8, sym e9, f9, sym e10, t))
@@ -91,7 +111,7 @@ module _
           unfolding verdict first row
           call-11 t = by-rows (Refused 11 0) (rw (sym e8, f8, sym e9, f9, sym e10, f10, sym e11, t))
 
-          pub call-last : b11 ≡ false → (r : Verdict) → r ≡ verdict v m (first last) → Is r
+          pub call-last : b11 ≡ false → (r : Verdict) → r ≡ verdict v m at (first last) → Is r
           unfolding verdict first row
           call-last f r e = by-rows r (rw (sym e8, f8, sym e9, f9, sym e10, f10, sym e11, f) e)
 
@@ -108,9 +128,8 @@ refused-by (refused k q) n p h =
     let b : q ≡ p = cc in
     rw (a, b)
 
-module _ (s : List ℕ) (start goal : ℕ) (anchor sheets : List ℕ) (count : ℕ) (schedule : List ℕ) (route work : ℕ) where
-  pub plan-refused :
-      (n p : ℕ) → sizes (decode s) ≡ plan.Refused n p → Decided s start goal anchor sheets count schedule route work (Refused n p)
+module _ (s : List ℕ) (q : Query) (anchor sheets schedule : List ℕ) (lengths : Lengths) where
+  pub plan-refused : (n p : ℕ) → sizes (decode s) ≡ plan.Refused n p → Decided s q anchor sheets schedule lengths (Refused n p)
   unfolding verdictOf verdict faultOf faultIn
-  plan-refused n p q =
-      let d : decode s ≡ refused n p = refused-by (decode s) n p q in record { decided = λ budget memory k l. sym (rw d) }
+  plan-refused n p e =
+      let d : decode s ≡ refused n p = refused-by (decode s) n p e in record { decided = λ c k. sym (rw (ap decode (k .bytes-is) ∙ d)) }

@@ -1,32 +1,38 @@
--- The verdict on a planner call, admitted with V and M of its plan or refused: for the contract of `decide`, nothing that a reader must believe.
+-- The verdict on a planner call, admitted with what its plan's header says or refused: for the contract of `decide`, nothing that a reader must believe.
 use Prim.Native.Nat.{ℕ}
 use mathlib.Core.Path.{_≡_}
 use mathlib.Core.List.{List}
 use lib.ListN.{length}
-use Rattle.graph.specs.Plan.{decode}
-use Rattle.graph.specs.Lists.{edgesIn}
-use Rattle.search.specs.Call.{Memory, Call, faultOf, jobOf}
+use Rattle.graph.specs.declared.Header.{Header}
+use Rattle.graph.specs.declared.Header.the-variants
+use Rattle.graph.specs.declared.Header.the-variants.{Counts}
+use Rattle.graph.specs.Plan.{header}
+use Rattle.search.specs.Call.{Call, scheduleOf, faultOf, planEdges, jobOf}
+use Rattle.admission.specs.declared.Query.{Query}
+use Rattle.admission.specs.declared.Lengths.{Lengths}
 use Rattle.admission.specs.declared.Verdict.{Verdict}
 use Rattle.admission.specs.Verdict.{verdict}
 
-unfoldable pub verdictOf : Call → Verdict
-verdictOf c = verdict (jobOf c .size) (length (edgesIn (decode (c .bytes)))) (faultOf c)
+-- the offset of a plan's first edge
+unfoldable pub firstEdgeAt : Header → ℕ
+firstEdgeAt (Counts v m at) = at
+firstEdgeAt (the-variants.Refused n p) = 0
 
--- r is the verdict on a call with these arguments, and route and work memory of these lengths, whatever its budget and what memory holds
-pub record Decided
-    (bytes : List ℕ) (start goal : ℕ) (anchor sheets : List ℕ) (count : ℕ) (schedule : List ℕ) (route work : ℕ) (r : Verdict) : Type 0 where
-  pub decided :
-      (budget : ℕ) (memory : Memory) → length (memory .route) ≡ route → length (memory .work) ≡ work →
-      r
-      ≡ verdictOf
-      (record {
-        bytes = bytes;
-        start = start;
-        goal = goal;
-        anchor = anchor;
-        sheets = sheets;
-        count = count;
-        schedule = schedule;
-        budget = budget;
-        memory = memory;
-      })
+unfoldable pub verdictOf : Call → Verdict
+verdictOf c = verdict (jobOf c .size) (length (planEdges c)) (firstEdgeAt (header (c .bytes))) (faultOf c)
+
+-- c is a call with these arguments, `schedule` in force, whose lent memory has these lengths
+pub record Asks (c : Call) (bytes : List ℕ) (q : Query) (anchor sheets schedule : List ℕ) (lengths : Lengths) : Type 0 where
+  pub bytes-is : c .bytes ≡ bytes
+  pub start-is : c .start ≡ q .start
+  pub goal-is : c .goal ≡ q .goal
+  pub anchor-is : c .anchor ≡ anchor
+  pub sheets-is : c .sheets ≡ sheets
+  pub count-is : c .count ≡ q .guides
+  pub schedule-is : scheduleOf c ≡ schedule
+  pub route-is : length (c .memory .route) ≡ lengths .route
+  pub work-is : length (c .memory .work) ≡ lengths .work
+
+-- r is the verdict on every such call, whatever its budget and what memory holds
+pub record Decided (bytes : List ℕ) (q : Query) (anchor sheets schedule : List ℕ) (lengths : Lengths) (r : Verdict) : Type 0 where
+  pub decided : (c : Call) → Asks c bytes q anchor sheets schedule lengths → r ≡ verdictOf c

@@ -4,7 +4,7 @@ use Rattle.graph.specs.Lists.{Fault, none, fault}
 use Rattle.admission.specs.declared.Verdict.{Verdict}
 use Rattle.admission.specs.declared.Verdict.the-variants.{Admitted, Refused}
 
--- a call is turned down where it has a fault; else it is admitted, with V and M of its plan
-unfoldable pub verdict : ℕ → ℕ → Fault → Verdict
-verdict v m none = Admitted v m
-verdict v m (fault n p) = Refused n p
+-- a call is turned down where it has a fault; else it is admitted, with V and M of its plan and the offset of the first edge
+unfoldable pub verdict : ℕ → ℕ → ℕ → Fault → Verdict
+verdict v m at none = Admitted v m at
+verdict v m at (fault n p) = Refused n p

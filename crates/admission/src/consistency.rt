@@ -55,7 +55,7 @@ fn try_edge(bytes: &[u8], vertices: u32, anchor: &[u32], cursor: Cursor) -> Trie
 fn edges_verdict(bytes: &[u8], vertices: u32, edges: u32, at: usize, anchor: &[u32]) -> Verdict
     requires { ⌜ sizes (edgesFrom vertices edges (now bytes) (firstAt at)) ≡ Sizes vertices edges ⌝ }
     requires { ⌜ length (now anchor) ≡ vertices ⌝ }
-    ensures { λ r. ⌜ r ≡ verdict vertices edges (edgesRow (now (anchor .entry)) 0 (edgesIn (edgesFrom vertices edges (now (bytes .entry)) (firstAt at)))) ⌝ }
+    ensures { λ r. ⌜ r ≡ verdict vertices edges at (edgesRow (now (anchor .entry)) 0 (edgesIn (edgesFrom vertices edges (now (bytes .entry)) (firstAt at)))) ⌝ }
 {
     let count = edges as usize;
     let mut cursor = cursor::first(at);
@@ -67,7 +67,7 @@ fn edges_verdict(bytes: &[u8], vertices: u32, edges: u32, at: usize, anchor: &[u
         cursor = next;
         i += 1;
     }
-    Verdict::Admitted(vertices, edges)
+    Verdict::Admitted(vertices, edges, at)
 }
 
 // Row 12, then row 13.
@@ -82,7 +82,7 @@ pub fn anchor_verdict(
     requires { ⌜ sizes (edgesFrom vertices edges (now bytes) (firstAt at)) ≡ Sizes vertices edges ⌝ }
     requires { ⌜ length (now anchor) ≡ vertices ⌝ }
     requires { ⌜ goal < vertices ⌝ }
-    ensures { λ r. ⌜ r ≡ verdict vertices edges (first (row (not (eqb (getD (now (anchor .entry)) goal 0) 0)) 12 0 ∷ edgesRow (now (anchor .entry)) 0 (edgesIn (edgesFrom vertices edges (now (bytes .entry)) (firstAt at))) ∷ [])) ⌝ }
+    ensures { λ r. ⌜ r ≡ verdict vertices edges at (first (row (not (eqb (getD (now (anchor .entry)) goal 0) 0)) 12 0 ∷ edgesRow (now (anchor .entry)) 0 (edgesIn (edgesFrom vertices edges (now (bytes .entry)) (firstAt at))) ∷ [])) ⌝ }
 {
     let i = goal as usize;
     if anchor[i] != 0 {

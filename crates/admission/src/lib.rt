@@ -6,26 +6,39 @@ ghost use Rattle.admission.specs.Admission.{Decided};
 use graph::Header;
 use graph::PlanRead;
 
-// What is decided of a call: it is admitted, with V and M; or refused, number and position.
+// What a call asks besides slices: the ends, the number of inadmissible heuristics (guides), and the budget
+// (allowance) of turns.
+pub struct Query {
+    pub start: u32,
+    pub goal: u32,
+    pub guides: u32,
+    pub budget: u32,
+}
+
+// The lengths of lent memory, as far as a call asks for them.
+pub struct Lengths {
+    pub route: usize,
+    pub work: usize,
+}
+
+// What is decided of a call: it is admitted, with V and M and the offset of the plan's first edge; or refused,
+// number and position.
 pub enum Verdict {
-    Admitted(u32, u32),
+    Admitted(u32, u32, usize),
     Refused(u32, usize),
 }
 
 // The verdict on a planner call: refused for its first fault, those of the plan (1 to 7) before the rows 8 to
-// 13; or admitted, with V and M of its plan.
+// 13; or admitted. The schedule is the one in force.
 pub fn decide(
     bytes: &[u8],
-    start: u32,
-    goal: u32,
+    q: Query,
     anchor: &[u32],
     guides: &[u32],
-    guide_count: u32,
     schedule: &[u32],
-    route_len: usize,
-    work_len: usize,
+    lengths: Lengths,
 ) -> Verdict
-    ensures { λ r. ⌜ Decided (now (bytes .entry)) start goal (now (anchor .entry)) (now (guides .entry)) «guide_count» (now (schedule .entry)) «route_len» «work_len» r ⌝ }
+    ensures { λ r. ⌜ Decided (now (bytes .entry)) q (now (anchor .entry)) (now (guides .entry)) (now (schedule .entry)) lengths r ⌝ }
 {
     match plan_check::header(bytes) {
         Header::Refused(n, p) => Verdict::Refused(n, p),
@@ -37,14 +50,11 @@ pub fn decide(
                     vertices,
                     edges,
                     at,
-                    start,
-                    goal,
+                    q,
                     anchor,
                     guides,
-                    guide_count,
                     schedule,
-                    route_len,
-                    work_len,
+                    lengths,
                 ),
             }
         }

@@ -7,6 +7,8 @@ ghost use Rattle.graph.specs.declared.Header.the-variants.{Counts};
 ghost use Rattle.graph.specs.declared.PlanRead.the-variants.{Sizes};
 ghost use Rattle.graph.specs.Plan.{header, firstAt, edgesFrom, sizes};
 ghost use Rattle.admission.specs.Admission.{Decided};
+use crate::Lengths;
+use crate::Query;
 use crate::Verdict;
 use crate::consistency;
 
@@ -38,14 +40,14 @@ fn tables_fail(vertices: u32, anchor: usize, guides: usize, guide_count: u32) ->
 }
 
 // Row 11, by the lengths of route and work memory: route under V words, or work under 5V+1+2M.
-fn memory_fails(vertices: u32, edges: u32, route: usize, work: usize) -> bool
-    ensures { λ r. ⌜ r ≡ (ltb route vertices || ltb work (5 * vertices + 1 + 2 * edges)) ⌝ }
+fn memory_fails(vertices: u32, edges: u32, lengths: Lengths) -> bool
+    ensures { λ r. ⌜ r ≡ (ltb (lengths .route) vertices || ltb (lengths .work) (5 * vertices + 1 + 2 * edges)) ⌝ }
 {
     let v = vertices as usize;
-    if route < v {
+    if lengths.route < v {
         return true;
     }
-    work < 5 * v + 1 + 2 * edges as usize
+    lengths.work < 5 * v + 1 + 2 * edges as usize
 }
 
 // The rows of a call whose plan was checked.
@@ -54,29 +56,28 @@ pub fn call_verdict(
     vertices: u32,
     edges: u32,
     at: usize,
-    start: u32,
-    goal: u32,
+    q: Query,
     anchor: &[u32],
     guides: &[u32],
-    guide_count: u32,
     schedule: &[u32],
-    route_len: usize,
-    work_len: usize,
+    lengths: Lengths,
 ) -> Verdict
     requires { ⌜ header (now bytes) ≡ Counts vertices edges at ⌝ }
     requires { ⌜ sizes (edgesFrom vertices edges (now bytes) (firstAt at)) ≡ Sizes vertices edges ⌝ }
-    ensures { λ r. ⌜ Decided (now (bytes .entry)) start goal (now (anchor .entry)) (now (guides .entry)) «guide_count» (now (schedule .entry)) «route_len» «work_len» r ⌝ }
+    ensures { λ r. ⌜ Decided (now (bytes .entry)) q (now (anchor .entry)) (now (guides .entry)) (now (schedule .entry)) lengths r ⌝ }
 {
+    let start = q.start;
+    let goal = q.goal;
     if ends_fail(start, goal, vertices) {
         return Verdict::Refused(8, 0);
     }
-    if tables_fail(vertices, anchor.len(), guides.len(), guide_count) {
+    if tables_fail(vertices, anchor.len(), guides.len(), q.guides) {
         return Verdict::Refused(9, 0);
     }
     if schedule::schedule_fails(schedule) {
         return Verdict::Refused(10, 0);
     }
-    if memory_fails(vertices, edges, route_len, work_len) {
+    if memory_fails(vertices, edges, lengths) {
         return Verdict::Refused(11, 0);
     }
     consistency::anchor_verdict(bytes, vertices, edges, at, goal, anchor)

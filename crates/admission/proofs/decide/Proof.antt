@@ -32,11 +32,11 @@ call-verdict-requires c κs =
 
 returns : tie.Need-returns
 returns c =
-    plan-refused _ _ _ _ _ _ _ _ _ _ _ (sym (header-refused _ _ _ (sym (c .before .before .before .header .ensures) ∙ c .before .n .given .1)))
+    plan-refused _ _ _ _ _ _ _ _ (sym (header-refused _ _ _ (sym (c .before .before .before .header .ensures) ∙ c .before .n .given .1)))
 
 returns-2 : tie.Need-returns-2
 returns-2 c =
-    plan-refused _ _ _ _ _ _ _ _ _ _ _
+    plan-refused _ _ _ _ _ _ _ _
     (sym (c .before .before .before .check-edges .ensures ∙ header-then _ _ _ _ (sym (c .before .before .before .before .before .before .before .header .ensures) ∙ c .before .before .before .before .before .vertices .given .1)) ∙ c .before .n2 .given .1)
 
 returns-3 : tie.Need-returns-3

@@ -11,13 +11,13 @@ shared-slice-read-if1 : tie.Need-shared-slice-read-if1
 shared-slice-read-if1 c = search needs
 
 returns : tie.Need-returns
-returns c = goal-fails _ _ (c .before .before .before .before .args .anchor .now) (c .before .before .before .before .args .goal) _ (c .if1 .taken)
+returns c = goal-fails _ _ _ (c .before .before .before .before .args .anchor .now) (c .before .before .before .before .args .goal) _ (c .if1 .taken)
 
 edges-verdict-requires : tie.Need-edges-verdict-requires
 edges-verdict-requires c κs = search needs
 
 returns-2 : tie.Need-returns-2
-returns-2 c = goal-holds _ _ (c .before .before .before .before .before .args .anchor .now) (c .before .before .before .before .before .args .goal) _ _ (c .before .if1 .left) (c .edges-verdict .ensures)
+returns-2 c = goal-holds _ _ _ (c .before .before .before .before .before .args .anchor .now) (c .before .before .before .before .before .args .goal) _ _ (c .before .if1 .left) (c .edges-verdict .ensures)
 
 pub anchor-verdict-spec : {M : Type 1} → statement M
 anchor-verdict-spec =
