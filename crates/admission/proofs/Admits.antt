@@ -1,4 +1,4 @@
--- What a verdict says of its call, for whoever asks for one; and the schedule of the job that a call asks.
+-- What a verdict says of its call, for whoever asks for one.
 use Prim.Native.Nat.{ℕ}
 use native.Mathlib.Omega.{arith}
 use mathlib.Core.Path.{_≡_, refl, sym, ap, _∙_, subst}
@@ -12,7 +12,7 @@ use Rattle.graph.specs.Plan.{Decoded, accepted, refused, firstAt, header, after
 use Rattle.graph.specs.Lists.{Fault, none, fault, edgesIn}
 use Rattle.graph.proofs.Plan as laws
 use Rattle.graph.proofs.Plan.{accepted≢refused}
-use Rattle.search.specs.Call.{Call, scheduleOf, pairs, faultIn, faultOf, planEdges, jobIn, jobFrom, jobOf}
+use Rattle.search.specs.Call.{Call, faultIn, faultOf, planEdges, jobIn, jobFrom, jobOf}
 use Rattle.search.specs.Admitted.{Admissible}
 use Rattle.search.proofs.Admitted.{clear}
 use Rattle.admission.specs.declared.Verdict.the-variants.{Admitted, Refused}
@@ -82,14 +82,3 @@ refused-by w k at n p (fault i q) h =
 pub refuses : (c : Call) (n p : ℕ) → verdictOf c ≡ Refused n p → faultOf c ≡ fault n p
 unfolding verdictOf
 refuses c n p h = refused-by (jobOf c .size) (length (planEdges c)) (firstEdgeAt (header (c .bytes))) n p (faultOf c) h
-
--- ---- the schedule in force is the job's
-
-schedule-by : (c : Call) (d : Decoded) → jobFrom c d .schedule ≡ pairs (scheduleOf c)
-unfolding jobFrom jobIn
-schedule-by c (accepted v es) = refl
-schedule-by c (refused n p) = refl
-
-pub job-schedule : (c : Call) → jobOf c .schedule ≡ pairs (scheduleOf c)
-unfolding jobOf
-job-schedule c = schedule-by c (decode (c .bytes))
