@@ -43,10 +43,10 @@ cond-same : {A : Type 0} (b : Bool) (x : A) → cond b x x ≡ x
 cond-same true x = refl
 cond-same false x = refl
 
-trace-at : (st : List Vertex) (start n : ℕ) → 0 < n → trace st start n start [] ≡ start ∷ []
+trace-at : (p : ℕ → ℕ) (start n : ℕ) → 0 < n → trace p start n start [] ≡ start ∷ []
 unfolding trace
-trace-at st start zero h = absurd (omega arith)
-trace-at st start (suc n) h = rw (eq-eqb start start refl, trace)
+trace-at p start zero h = absurd (omega arith)
+trace-at p start (suc n) h = rw (eq-eqb start start refl, trace)
 
 module _ (job : Job) (v : Valid job) (same : job .start ≡ job .goal) where
   -- after r rounds, with this incumbent
@@ -73,7 +73,7 @@ module _ (job : Job) (v : Valid job) (same : job .start ≡ job .goal) where
 
   trace-is : (r : ℕ) (route : List ℕ) → traced job (state r route) ≡ job .start ∷ []
   unfolding traced
-  trace-is r route = rw (← same) (trace-at (atFirst (job .size) (job .start)) (job .start) (job .size) (omega (arith, v .starts)))
+  trace-is r route = rw (← same) (trace-at (λ x. at (atFirst (job .size) (job .start)) x .pred) (job .start) (job .size) (omega (arith, v .starts)))
 
   unchanged : (b : Bool) → cond b (map reopened (atFirst (job .size) (job .start))) (atFirst (job .size) (job .start)) ≡ atFirst (job .size) (job .start)
   unchanged b = rw first-reopened (cond-same b _)

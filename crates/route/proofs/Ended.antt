@@ -2,7 +2,7 @@
 use mathlib.Core.Path.{_≡_, refl, sym, ap, _∙_}
 use mathlib.Core.Logic.{_≢_}
 use mathlib.Core.Bool.{Bool, true, false, cond, _||_}
-use mathlib.Core.List.{List}
+use mathlib.Core.List.{List, []}
 use Prim.Native.Nat.{ℕ, suc, _≤_, _<_}
 use native.Mathlib.Omega.{arith}
 use lib.Dec.{eqb, ltb}
@@ -14,15 +14,17 @@ use Rattle.search.specs.declared.Progress.{Progress}
 use Rattle.search.specs.declared.RouteCost.{RouteCost}
 use Rattle.search.specs.declared.RouteCost.the-variants.{Broken, Cost}
 use Rattle.search.specs.Walk.{routeCost}
-use Rattle.search.specs.Job.{State, Job}
-use Rattle.search.specs.Rounds.{ended, traced, improves, costOr, endRound}
+use Rattle.search.specs.Job.{State, Job, at}
+use Rattle.search.specs.Rounds.{ended, trace, traced, improves, costOr, endRound}
 use Rattle.search.specs.Outcome.{routeWords, routeAfter}
 use Rattle.search.proofs.Tools.{same-cases}
 use Rattle.search.proofs.Words.{route-length}
 use Rattle.workspace.specs.declared.Size.{Size}
-use Rattle.workspace.specs.Layout.{verticesOf, graphOf}
+use Rattle.workspace.specs.Layout.{Words, verticesOf, predOf, graphOf}
+use Rattle.workspace.proofs.Written.{pred-is}
 use Rattle.route.specs.Trace.{tracedIn, tracedCost}
 use Rattle.route.specs.Kept.{keptCost, keptRoute}
+use Rattle.route.proofs.Traces.{trace-same}
 use Rattle.route.proofs.Laid.{tracedIn-most}
 
 -- ---- whether it becomes the incumbent
@@ -105,28 +107,36 @@ module _ (job : Job) (s : State) where
     unfolding keptRoute endRound ended routeAfter
     end-route = rw (is, ne-eqb (suc (s .progress .rounds)) 0 (λ e. omega arith)) (by-test (improves (Cost k) (s .progress)) refl)
 
--- ---- where work memory holds the state
+-- ---- where memory holds the state
 
-module _ (z : Size) (w : List ℕ) (job : Job) (s : State) (size : z .vertices ≡ job .size) (edges : graphOf z w ≡ job .edges)
-    (vertices : verticesOf z w ≡ s .vertices) where
-  pub traced-is : tracedIn z w (job .start) (job .goal) ≡ traced job s
-  unfolding tracedIn traced
-  traced-is = rw (vertices, size)
+-- the words of predecessors are traced as those of the vertices
+pub tracedIn-is :
+    (z : Size) (m : Words) (start goal : ℕ) →
+    tracedIn z (m .work) start goal ≡ trace (λ x. at (verticesOf z m) x .pred) start (z .vertices) goal []
+unfolding tracedIn
+tracedIn-is z m start goal =
+    trace-same (predOf z (m .work)) (λ x. at (verticesOf z m) x .pred) (pred-is z m) start (z .vertices) goal []
 
-  pub cost-is : tracedCost z w (job .start) (job .goal) ≡ routeCost (job .edges) (traced job s)
+module _ (z : Size) (m : Words) (job : Job) (s : State) (size : z .vertices ≡ job .size) (edges : graphOf z (m .work) ≡ job .edges)
+    (vertices : verticesOf z m ≡ s .vertices) where
+  pub traced-is : tracedIn z (m .work) (job .start) (job .goal) ≡ traced job s
+  unfolding traced
+  traced-is = tracedIn-is z m (job .start) (job .goal) ∙ rw (vertices, size)
+
+  pub cost-is : tracedCost z (m .work) (job .start) (job .goal) ≡ routeCost (job .edges) (traced job s)
   unfolding tracedCost
   cost-is = rw (traced-is, edges)
 
   -- what `keep` answers is the incumbent's cost after the round
-  pub ends-cost : (n : ℕ) → n ≡ keptCost (tracedCost z w (job .start) (job .goal)) (s .progress) → n ≡ endRound job s .progress .cost
+  pub ends-cost : (n : ℕ) → n ≡ keptCost (tracedCost z (m .work) (job .start) (job .goal)) (s .progress) → n ≡ endRound job s .progress .cost
   ends-cost n e = e ∙ ap (λ (c : RouteCost). keptCost c (s .progress)) cost-is ∙ end-cost job s
 
   -- route memory after `keep`, where `old` was lent: the traced route is a walk, and the incumbent has at most V vertices
   pub ends-route :
       (old entry exit : List ℕ) (k : ℕ) → routeCost (job .edges) (traced job s) ≡ Cost k →
       (0 < s .progress .rounds → length (s .incumbent) ≤ job .size) → entry ≡ routeAfter job s old →
-      exit ≡ keptRoute (z .vertices) (tracedCost z w (job .start) (job .goal)) (tracedIn z w (job .start) (job .goal)) (s .progress) entry →
+      exit ≡ keptRoute (z .vertices) (tracedCost z (m .work) (job .start) (job .goal)) (tracedIn z (m .work) (job .start) (job .goal)) (s .progress) entry →
       exit ≡ routeAfter job (endRound job s) old
   ends-route old entry exit k is short e f =
-      let m : length (traced job s) ≤ job .size = omega (arith, tracedIn-most z w (job .start) (job .goal), ap length traced-is) in
-      rw (cost-is, traced-is, size, e) at f ∙ end-route job s old k is short m
+      let l : length (traced job s) ≤ job .size = omega (arith, tracedIn-most z (m .work) (job .start) (job .goal), ap length traced-is) in
+      rw (cost-is, traced-is, size, e) at f ∙ end-route job s old k is short l

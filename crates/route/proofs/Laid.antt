@@ -7,60 +7,59 @@ use native.Mathlib.Omega.{arith}
 use lib.ListN.{length, set, drop, replicate, length-set, length-append, length-drop, length-replicate}
 use lib.Seq.{sets, sets-eq, drop-cons, drop-set-lt, getD-set-same, take-at, drop-at, drop-drop}
 use Rattle.graph.specs.Lists.{over}
-use Rattle.search.specs.declared.Vertex.{Vertex}
-use Rattle.search.specs.Job.{at, routeEnd}
+use Rattle.search.specs.Job.{routeEnd}
 use Rattle.search.specs.Rounds.{trace}
 use Rattle.search.specs.Outcome.{routeWords}
 use Rattle.search.proofs.Tools.{same-cases}
 use Rattle.workspace.specs.declared.Size.{Size}
-use Rattle.workspace.specs.Layout.{verticesOf}
+use Rattle.workspace.specs.Layout.{predOf}
 use Rattle.route.specs.Trace.{tracedIn}
 use Rattle.route.proofs.Traces.{trace-stop, trace-go, trace-none}
 use Rattle.route.specs.Backs.{backs}
 
 -- ---- predecessors by their number
 
-module _ (st : List Vertex) where
-  length-backs : (n x : ℕ) (r : List ℕ) → length (backs st n x r) ≡ n + length r
+module _ (pred : ℕ → ℕ) where
+  length-backs : (n x : ℕ) (r : List ℕ) → length (backs pred n x r) ≡ n + length r
   unfolding backs
   length-backs zero x r = omega arith
-  length-backs (suc n) x r = omega (arith, length-backs n (at st x .pred) (x ∷ r))
+  length-backs (suc n) x r = omega (arith, length-backs n (pred x) (x ∷ r))
 
-  backs-before : (n x : ℕ) (r : List ℕ) → backs st n x r ≡ backs st n x [] ++ r
+  backs-before : (n x : ℕ) (r : List ℕ) → backs pred n x r ≡ backs pred n x [] ++ r
   unfolding backs
   backs-before zero x r = refl
   backs-before (suc n) x r =
-      let p = at st x .pred in
-      backs-before n p (x ∷ r) ∙ sym (append-assoc (backs st n p []) (x ∷ []) r) ∙ ap (λ (l : List ℕ). l ++ r) (sym (backs-before n p (x ∷ [])))
+      let p = pred x in
+      backs-before n p (x ∷ r) ∙ sym (append-assoc (backs pred n p []) (x ∷ []) r) ∙ ap (λ (l : List ℕ). l ++ r) (sym (backs-before n p (x ∷ [])))
 
   module _ (start : ℕ) where
-    length-trace : (n x : ℕ) (r : List ℕ) → length (trace st start n x r) ≡ length (trace st start n x []) + length r
-    length-trace zero x r = rw (trace-none st start x r, trace-none st start x []) (omega arith)
+    length-trace : (n x : ℕ) (r : List ℕ) → length (trace pred start n x r) ≡ length (trace pred start n x []) + length r
+    length-trace zero x r = rw (trace-none pred start x r, trace-none pred start x []) (omega arith)
     length-trace (suc n) x r =
         same-cases x start
-        (λ e. rw (trace-stop st start n x r e, trace-stop st start n x [] e) (omega arith))
-        (λ e. rw (trace-go st start n x r e, trace-go st start n x [] e) (omega (arith, length-trace n (at st x .pred) (x ∷ r), length-trace n (at st x .pred) (x ∷ []))))
+        (λ e. rw (trace-stop pred start n x r e, trace-stop pred start n x [] e) (omega arith))
+        (λ e. rw (trace-go pred start n x r e, trace-go pred start n x [] e) (omega (arith, length-trace n (pred x) (x ∷ r), length-trace n (pred x) (x ∷ []))))
 
-    length-traced : (n x : ℕ) → length (trace st start n x []) ≤ n
-    length-traced zero x = rw (trace-none st start x []) (omega arith)
+    length-traced : (n x : ℕ) → length (trace pred start n x []) ≤ n
+    length-traced zero x = rw (trace-none pred start x []) (omega arith)
     length-traced (suc n) x =
         same-cases x start
-        (λ e. rw (trace-stop st start n x [] e) (omega arith))
-        (λ e. rw (trace-go st start n x [] e) (omega (arith, length-traced n (at st x .pred), length-trace n (at st x .pred) (x ∷ []))))
+        (λ e. rw (trace-stop pred start n x [] e) (omega arith))
+        (λ e. rw (trace-go pred start n x [] e) (omega (arith, length-traced n (pred x), length-trace n (pred x) (x ∷ []))))
 
-    trace-backs : (n x : ℕ) (r : List ℕ) → trace st start n x r ≡ backs st (length (trace st start n x [])) x r
+    trace-backs : (n x : ℕ) (r : List ℕ) → trace pred start n x r ≡ backs pred (length (trace pred start n x [])) x r
     unfolding backs
-    trace-backs zero x r = rw (trace-none st start x r, trace-none st start x [])
+    trace-backs zero x r = rw (trace-none pred start x r, trace-none pred start x [])
     trace-backs (suc n) x r =
         same-cases x start
-        (λ e. rw (trace-stop st start n x r e, trace-stop st start n x [] e))
+        (λ e. rw (trace-stop pred start n x r e, trace-stop pred start n x [] e))
         (λ e.
-        let p = at st x .pred in
-        let l : length (trace st start n p (x ∷ [])) ≡ suc (length (trace st start n p [])) = omega (arith, length-trace n p (x ∷ [])) in
-        rw (trace-go st start n x r e, trace-go st start n x [] e, l) (trace-backs n p (x ∷ r)))
+        let p = pred x in
+        let l : length (trace pred start n p (x ∷ [])) ≡ suc (length (trace pred start n p [])) = omega (arith, length-trace n p (x ∷ [])) in
+        rw (trace-go pred start n x r e, trace-go pred start n x [] e, l) (trace-backs n p (x ∷ r)))
 
     -- the trace is the goal and its predecessors, by their number
-    traced-backs : (v goal n : ℕ) → n ≡ length (trace st start v goal []) → backs st n goal [] ≡ trace st start v goal []
+    traced-backs : (v goal n : ℕ) → n ≡ length (trace pred start v goal []) → backs pred n goal [] ≡ trace pred start v goal []
     traced-backs v goal n e = rw e (sym (trace-backs v goal []))
 
   -- ---- the loop that lays n vertices from the back: r₀ before it, r with those from word i on
@@ -68,14 +67,14 @@ module _ (st : List Vertex) where
   pub record Laying (n goal : ℕ) (r₀ r : List ℕ) (i x : ℕ) : Type 0 where
     pub most : i ≤ n
     pub long : length r ≡ length r₀
-    pub ahead : backs st i x (drop i r) ≡ backs st n goal (drop n r₀)
+    pub ahead : backs pred i x (drop i r) ≡ backs pred n goal (drop n r₀)
 
   module _ (n goal : ℕ) (r₀ : List ℕ) where
     pub laying-none : Laying n goal r₀ r₀ n goal
     laying-none = record { most = omega arith; long = refl; ahead = refl }
 
     module _ (r : List ℕ) (i x : ℕ) (k : Laying n goal r₀ r i x) where
-      pub laying-more : (r′ : List ℕ) (x′ : ℕ) → 0 < i → n ≤ length r₀ → r′ ≡ set r (i - 1) x → x′ ≡ at st x .pred → Laying n goal r₀ r′ (i - 1) x′
+      pub laying-more : (r′ : List ℕ) (x′ : ℕ) → 0 < i → n ≤ length r₀ → r′ ≡ set r (i - 1) x → x′ ≡ pred x → Laying n goal r₀ r′ (i - 1) x′
       unfolding backs
       laying-more r′ x′ h room e f =
           let s : i ≡ suc (i - 1) = omega arith in
@@ -89,10 +88,10 @@ module _ (st : List Vertex) where
             ahead = rw (d, f) (rw s at (k .ahead));
           }
 
-      pub laying-all : i ≡ 0 → n ≤ length r₀ → r ≡ over (backs st n goal []) r₀
+      pub laying-all : i ≡ 0 → n ≤ length r₀ → r ≡ over (backs pred n goal []) r₀
       unfolding over backs
       laying-all h room =
-          let l : length (backs st n goal []) ≡ n = omega (arith, length-backs n goal []) in
+          let l : length (backs pred n goal []) ≡ n = omega (arith, length-backs n goal []) in
           rw l (rw h at (k .ahead) ∙ backs-before n goal (drop n r₀))
 
 -- ---- one word again and again, from i up to v
@@ -123,12 +122,12 @@ ended-route v t old h room =
 module _ (z : Size) (w : List ℕ) (start goal : ℕ) where
   pub tracedIn-most : length (tracedIn z w start goal) ≤ z .vertices
   unfolding tracedIn
-  tracedIn-most = length-traced (verticesOf z w) start (z .vertices) goal
+  tracedIn-most = length-traced (predOf z w) start (z .vertices) goal
 
-  module _ (old laid r : List ℕ) (n : ℕ) (e : n ≡ length (tracedIn z w start goal)) (f : laid ≡ over (backs (verticesOf z w) n goal []) old) where
+  module _ (old laid r : List ℕ) (n : ℕ) (e : n ≡ length (tracedIn z w start goal)) (f : laid ≡ over (backs (predOf z w) n goal []) old) where
     pub laid-traced : laid ≡ over (tracedIn z w start goal) old
     unfolding tracedIn
-    laid-traced = rw (f, traced-backs (verticesOf z w) start (z .vertices) goal n e)
+    laid-traced = rw (f, traced-backs (predOf z w) start (z .vertices) goal n e)
 
     pub laid-whole :
         z .vertices ≤ length old → r ≡ sets laid n (replicate (z .vertices - n) routeEnd) → r ≡ over (routeWords (z .vertices) (tracedIn z w start goal)) old

@@ -3,54 +3,60 @@ use mathlib.Core.Path.{_≡_, refl, sym, ap, _∙_}
 use mathlib.Core.Logic.{_≢_}
 use mathlib.Core.Bool.{Bool, true, false}
 use mathlib.Core.List.{List, [], _∷_}
-use Prim.Native.Nat.{ℕ, suc, _+_, _*_, _-_, _≤_, _<_}
+use Prim.Native.Nat.{ℕ, zero, suc, _+_, _*_, _-_, _≤_, _<_}
 use native.Mathlib.Nat.{add-assoc}
 use native.Mathlib.Numerals.{add-one}
 use native.Mathlib.Omega.{arith}
 use lib.Dec.{eqb}
-use lib.ListN.{length, List·getD-eq-default}
+use lib.ListN.{length}
 use borrow.Author.Tests.{eq-eqb, ne-eqb}
 use Rattle.graph.specs.declared.Edge.{Edge}
-use Rattle.search.specs.declared.Vertex.{Vertex}
 use Rattle.search.specs.declared.RouteCost.{RouteCost}
 use Rattle.search.specs.declared.RouteCost.the-variants.{Broken, Cost}
-use Rattle.search.specs.Job.{at, fresh, noPred}
 use Rattle.search.specs.Walk.{edgeCost, onEdge, costFrom, routeCost}
 use Rattle.search.specs.Rounds.{trace}
 use Rattle.search.proofs.Tools.{same-cases}
 use Rattle.workspace.specs.declared.Size.{Size}
-use Rattle.workspace.specs.Layout.{verticesOf, graphOf}
+use Rattle.workspace.specs.Layout.{predOf, graphOf}
 use Rattle.route.specs.declared.trace.Traced.{Traced}
 use Rattle.route.specs.Trace.{tracedIn, tracedCost, measured}
 use Rattle.route.specs.Costs.{plus, extended, Payable, maxWord, AtMost}
 use Rattle.route.proofs.Found.{cost-most}
 
--- no vertex has no predecessor
-pub pred-past : (st : List Vertex) (x : ℕ) → length st ≤ x → at st x .pred ≡ noPred
-unfolding at fresh
-pred-past st x h = ap (λ (p : Vertex). p .pred) (List·getD-eq-default st fresh h)
-
 -- ---- one vertex further back
 
-module _ (st : List Vertex) (start : ℕ) where
+module _ (pred : ℕ → ℕ) (start : ℕ) where
   trace-on : (n x : ℕ) (r : List ℕ) (t : Bool) → eqb x start ≡ t
-      → trace st start (suc n) x r ≡ elim t [ true ↦ x ∷ r | false ↦ trace st start n (at st x .pred) (x ∷ r) ]
+      → trace pred start (suc n) x r ≡ elim t [ true ↦ x ∷ r | false ↦ trace pred start n (pred x) (x ∷ r) ]
   unfolding trace
-  trace-on n x r t e = ap (λ b. elim b [ true ↦ x ∷ r | false ↦ trace st start n (at st x .pred) (x ∷ r) ]) e
+  trace-on n x r t e = ap (λ b. elim b [ true ↦ x ∷ r | false ↦ trace pred start n (pred x) (x ∷ r) ]) e
 
-  pub trace-stop : (n x : ℕ) (r : List ℕ) → x ≡ start → trace st start (suc n) x r ≡ x ∷ r
+  pub trace-stop : (n x : ℕ) (r : List ℕ) → x ≡ start → trace pred start (suc n) x r ≡ x ∷ r
   trace-stop n x r e = trace-on n x r true (eq-eqb x start e)
 
-  pub trace-go : (n x : ℕ) (r : List ℕ) → x ≢ start → trace st start (suc n) x r ≡ trace st start n (at st x .pred) (x ∷ r)
+  pub trace-go : (n x : ℕ) (r : List ℕ) → x ≢ start → trace pred start (suc n) x r ≡ trace pred start n (pred x) (x ∷ r)
   trace-go n x r e = trace-on n x r false (ne-eqb x start e)
 
-  pub trace-none : (x : ℕ) (r : List ℕ) → trace st start 0 x r ≡ r
+  pub trace-none : (x : ℕ) (r : List ℕ) → trace pred start 0 x r ≡ r
   unfolding trace
   trace-none x r = refl
 
   -- the last vertex that there is room for
-  trace-last : (x : ℕ) (r : List ℕ) → trace st start 1 x r ≡ x ∷ r
-  trace-last x r = same-cases x start (λ e. trace-stop 0 x r e) (λ e. trace-go 0 x r e ∙ trace-none (at st x .pred) (x ∷ r))
+  trace-last : (x : ℕ) (r : List ℕ) → trace pred start 1 x r ≡ x ∷ r
+  trace-last x r = same-cases x start (λ e. trace-stop 0 x r e) (λ e. trace-go 0 x r e ∙ trace-none (pred x) (x ∷ r))
+
+-- predecessors that agree are traced alike
+pub trace-same :
+    (p q : ℕ → ℕ) → ((x : ℕ) → p x ≡ q x) → (start n x : ℕ) (r : List ℕ) → trace p start n x r ≡ trace q start n x r
+trace-same p q h start zero x r = trace-none p start x r ∙ sym (trace-none q start x r)
+trace-same p q h start (suc n) x r =
+    same-cases x start
+    (λ e. trace-stop p start n x r e ∙ sym (trace-stop q start n x r e))
+    (λ e.
+    trace-go p start n x r e
+    ∙ trace-same p q h start n (p x) (x ∷ r)
+    ∙ ap (λ (y : ℕ). trace q start n y (x ∷ r)) (h x)
+    ∙ sym (trace-go q start n x r e))
 
 -- ---- one vertex before others
 
@@ -124,7 +130,7 @@ module _ (z : Size) (w : List ℕ) (start goal : ℕ) where
     pub is : t ≡ measured (graphOf z w) (t .first ∷ rest)
     pub room : left + length rest ≡ z .vertices
     pub more : 0 < left
-    pub ahead : trace (verticesOf z w) start left (t .first) rest ≡ tracedIn z w start goal
+    pub ahead : trace (predOf z w) start left (t .first) rest ≡ tracedIn z w start goal
     pub pays : Payable t
 
   pub tracing-none : goal < z .vertices → Tracing (record { first = goal; length = 1; cost = Cost 0 })
@@ -149,9 +155,9 @@ module _ (z : Size) (w : List ℕ) (start goal : ℕ) where
     tracing-most = omega (arith, counted, k .room, k .more)
 
     pub tracing-more : (t′ : Traced) → t .length < z .vertices → t .first ≢ start
-        → t′ ≡ extended (graphOf z w) (at (verticesOf z w) (t .first) .pred) t → Payable t′ → Tracing t′
+        → t′ ≡ extended (graphOf z w) (predOf z w (t .first)) t → Payable t′ → Tracing t′
     tracing-more t′ h ne e p =
-        let x : ℕ = at (verticesOf z w) (t .first) .pred in
+        let x : ℕ = predOf z w (t .first) in
         let s : suc (k .left - 1) ≡ k .left = omega (arith, k .more) in
         let f : t′ .first ≡ x = back-first (graphOf z w) x t t′ e in
         record {
@@ -160,7 +166,7 @@ module _ (z : Size) (w : List ℕ) (start goal : ℕ) where
           is = e ∙ ap (extended (graphOf z w) x) (k .is) ∙ measured-cons (graphOf z w) x (t .first) (k .rest) ∙ ap (λ (y : ℕ). measured (graphOf z w) (y ∷ t .first ∷ k .rest)) (sym f);
           room = omega (arith, k .room, k .more);
           more = omega (arith, counted, k .room, k .more);
-          ahead = rw f (sym (trace-go (verticesOf z w) start (k .left - 1) (t .first) (k .rest) ne) ∙ rw s (k .ahead));
+          ahead = rw f (sym (trace-go (predOf z w) start (k .left - 1) (t .first) (k .rest) ne) ∙ rw s (k .ahead));
           pays = p;
         }
 
@@ -170,12 +176,12 @@ module _ (z : Size) (w : List ℕ) (start goal : ℕ) where
     pub tracing-start : t .first ≡ start → t ≡ measured (graphOf z w) (tracedIn z w start goal)
     tracing-start e =
         let s : suc (k .left - 1) ≡ k .left = omega (arith, k .more) in
-        traced-so (sym (trace-stop (verticesOf z w) start (k .left - 1) (t .first) (k .rest) e) ∙ rw s (k .ahead))
+        traced-so (sym (trace-stop (predOf z w) start (k .left - 1) (t .first) (k .rest) e) ∙ rw s (k .ahead))
 
     pub tracing-full : z .vertices ≤ t .length → t ≡ measured (graphOf z w) (tracedIn z w start goal)
     tracing-full h =
         let s : k .left ≡ 1 = omega (arith, counted, k .room, k .more) in
-        traced-so (sym (trace-last (verticesOf z w) start (t .first) (k .rest)) ∙ rw s at (k .ahead))
+        traced-so (sym (trace-last (predOf z w) start (t .first) (k .rest)) ∙ rw s at (k .ahead))
 
 -- ---- the figures of the traced route
 

@@ -7,12 +7,12 @@ use Rattle.search.specs.declared.RouteCost.{RouteCost}
 use Rattle.search.specs.Walk.{routeCost}
 use Rattle.search.specs.Rounds.{trace}
 use Rattle.workspace.specs.declared.Size.{Size}
-use Rattle.workspace.specs.Layout.{verticesOf, graphOf}
+use Rattle.workspace.specs.Layout.{predOf, graphOf}
 use Rattle.route.specs.declared.trace.Traced.{Traced}
 
 -- predecessors traced from the goal, as work memory has them
 unfoldable pub tracedIn : Size → List ℕ → ℕ → ℕ → List ℕ
-tracedIn z w start goal = trace (verticesOf z w) start (z .vertices) goal []
+tracedIn z w start goal = trace (predOf z w) start (z .vertices) goal []
 
 -- broken, or their cost
 unfoldable pub tracedCost : Size → List ℕ → ℕ → ℕ → RouteCost

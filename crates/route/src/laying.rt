@@ -5,31 +5,31 @@ ghost use Prim.Native.Nat.{_-_, _<_, _≤_};
 ghost use lib.ListN.{length, set, replicate};
 ghost use lib.Seq.{sets};
 ghost use Rattle.graph.specs.Lists.{over};
-ghost use Rattle.search.specs.Job.{at, routeEnd};
+ghost use Rattle.search.specs.Job.{routeEnd};
 ghost use Rattle.search.specs.Outcome.{routeWords};
-ghost use Rattle.workspace.specs.Layout.{Room, verticesOf};
+ghost use Rattle.workspace.specs.Layout.{WorkRoom, predOf};
 ghost use Rattle.route.specs.Trace.{tracedIn};
 ghost use Rattle.route.specs.Backs.{backs};
-use crate::trace;
 use workspace::Size;
+use workspace::vertex_words;
 
 // In route memory: the word after the incumbent's last vertex, and those after it up to V words.
 pub const ROUTE_END: u32 = 4294967295;
 
 // Word i of the route becomes x. The predecessor of x.
 fn put(work: &[u32], route: &mut [u32], z: Size, i: u32, x: u32) -> u32
-    requires { ⌜ Room z (now work) × (i < length (now route)) ⌝ }
-    ensures { λ r. ⌜ r ≡ at (verticesOf z (now (work .entry))) x .pred ⌝ }
+    requires { ⌜ WorkRoom z (now work) × (i < length (now route)) ⌝ }
+    ensures { λ r. ⌜ r ≡ predOf z (now (work .entry)) x ⌝ }
     ensures { λ r. ⌜ now (route .exit) ≡ set (now (route .entry)) i x ⌝ }
 {
     route[i as usize] = x;
-    trace::pred_of(work, z, x)
+    vertex_words::pred(work, z, x)
 }
 
 // n vertices, the last of them the goal, each the predecessor of the next, from the back.
 fn put_all(work: &[u32], route: &mut [u32], z: Size, goal: u32, n: u32)
-    requires { ⌜ Room z (now work) × (n ≤ length (now route)) ⌝ }
-    ensures { λ _. ⌜ now (route .exit) ≡ over (backs (verticesOf z (now (work .entry))) n goal []) (now (route .entry)) ⌝ }
+    requires { ⌜ WorkRoom z (now work) × (n ≤ length (now route)) ⌝ }
+    ensures { λ _. ⌜ now (route .exit) ≡ over (backs (predOf z (now (work .entry))) n goal []) (now (route .entry)) ⌝ }
 {
     let mut i = n;
     let mut x = goal;
@@ -53,7 +53,7 @@ fn fill(route: &mut [u32], n: u32, v: u32)
 
 // The trace from the goal, which has n vertices, and after it the words that end a route.
 pub fn lay(work: &[u32], route: &mut [u32], z: Size, start: u32, goal: u32, n: u32)
-    requires { ⌜ Room z (now work) × (z .vertices ≤ length (now route)) × (n ≡ length (tracedIn z (now work) start goal)) ⌝ }
+    requires { ⌜ WorkRoom z (now work) × (z .vertices ≤ length (now route)) × (n ≡ length (tracedIn z (now work) start goal)) ⌝ }
     ensures { λ _. ⌜ now (route .exit) ≡ over (routeWords (z .vertices) (tracedIn z (now (work .entry)) start goal)) (now (route .entry)) ⌝ }
 {
     put_all(work, route, z, goal, n);

@@ -8,7 +8,7 @@ ghost use Prim.Native.Nat.{_<_, _≤_};
 ghost use lib.ListN.{length, take};
 ghost use Rattle.search.specs.declared.RouteCost.the-variants.{Cost};
 ghost use Rattle.search.specs.Rounds.{improves};
-ghost use Rattle.workspace.specs.Layout.{Ready};
+ghost use Rattle.workspace.specs.Layout.{Loaded};
 ghost use Rattle.route.specs.Trace.{tracedIn, tracedCost};
 ghost use Rattle.route.specs.Kept.{keptCost, keptRoute, upToEnd};
 use search::Progress;
@@ -28,7 +28,7 @@ fn improves(c: u64, p: Progress) -> bool
 // A round is finished: the traced route is laid into route memory if it becomes the incumbent. The
 // incumbent's cost after it.
 pub fn keep(work: &[u32], route: &mut [u32], z: Size, start: u32, goal: u32, p: Progress) -> u64
-    requires { ⌜ Ready z (now work) × (goal < z .vertices) × (z .vertices ≤ length (now route)) ⌝ }
+    requires { ⌜ Loaded z (now work) × (goal < z .vertices) × (z .vertices ≤ length (now route)) ⌝ }
     ensures { λ r. ⌜ r ≡ keptCost (tracedCost z (now (work .entry)) start goal) p ⌝ }
     ensures { λ r. ⌜ now (route .exit) ≡ keptRoute (z .vertices) (tracedCost z (now (work .entry)) start goal) (tracedIn z (now (work .entry)) start goal) p (now (route .entry)) ⌝ }
 {

@@ -1,13 +1,11 @@
 // The trace of predecessors from the goal: counted and costed in one pass, without memory.
 ghost use mathlib.Core.Path.{_≡_};
 ghost use Prim.Native.Nat.{_*_, _<_};
-ghost use Rattle.search.specs.Job.{at};
-ghost use Rattle.workspace.specs.Layout.{Room, verticesOf, graphOf, Ready};
+ghost use Rattle.workspace.specs.Layout.{predOf, graphOf, Loaded};
 ghost use Rattle.route.specs.Trace.{tracedIn, measured};
 ghost use Rattle.route.specs.Costs.{plus, extended, Payable, AtMost, maxWord};
 use crate::edges;
 use search::RouteCost;
-use search::Vertex;
 use workspace::Size;
 use workspace::vertex_words;
 
@@ -16,19 +14,6 @@ pub struct Traced {
     pub first: u32,
     pub length: u32,
     pub cost: RouteCost,
-}
-
-// The predecessor of x, also where x is no vertex.
-pub fn pred_of(work: &[u32], z: Size, x: u32) -> u32
-    requires { ⌜ Room z (now work) ⌝ }
-    ensures { λ r. ⌜ r ≡ at (verticesOf z (now (work .entry))) x .pred ⌝ }
-{
-    let vertices = z.vertices;
-    if x < vertices {
-        let p = vertex_words::load(work, z, x);
-        return p.pred;
-    }
-    Vertex::NO_PRED
 }
 
 // The cost of an edge and of a walk after it.
@@ -47,12 +32,12 @@ fn plus(edge: RouteCost, rest: RouteCost) -> RouteCost
 
 // One vertex further back: the predecessor of the first one.
 fn back(work: &[u32], z: Size, t: Traced) -> Traced
-    requires { ⌜ Ready z (now work) × (t .length < z .vertices) × Payable t ⌝ }
-    ensures { λ r. ⌜ (r ≡ extended (graphOf z (now (work .entry))) (at (verticesOf z (now (work .entry))) (t .first) .pred) t) × Payable r ⌝ }
+    requires { ⌜ Loaded z (now work) × (t .length < z .vertices) × Payable t ⌝ }
+    ensures { λ r. ⌜ (r ≡ extended (graphOf z (now (work .entry))) (predOf z (now (work .entry)) (t .first)) t) × Payable r ⌝ }
 {
     let first = t.first;
     let length = t.length;
-    let pred = pred_of(work, z, first);
+    let pred = vertex_words::pred(work, z, first);
     let edge = edges::edge_cost(work, z, pred, first);
     let rest = t.cost;
     let cost = plus(edge, rest);
@@ -65,7 +50,7 @@ fn back(work: &[u32], z: Size, t: Traced) -> Traced
 
 // The trace from the goal, until it has the start or V vertices.
 pub fn from_goal(work: &[u32], z: Size, start: u32, goal: u32) -> Traced
-    requires { ⌜ Ready z (now work) × (goal < z .vertices) ⌝ }
+    requires { ⌜ Loaded z (now work) × (goal < z .vertices) ⌝ }
     ensures { λ r. ⌜ r ≡ measured (graphOf z (now (work .entry))) (tracedIn z (now (work .entry)) start goal) ⌝ }
 {
     let vertices = z.vertices;

@@ -1,12 +1,12 @@
 -- Laws for the code that expands a vertex: trying its own edges is trying all edges, one after another.
 use Prim.Native.Nat.{ℕ, zero, suc, _+_, _-_, _≤_, _<_}
 use mathlib.Core.Path.{_≡_, refl, sym, ap, _∙_}
-use mathlib.Core.Bool.{cond}
+use mathlib.Core.Bool.{true, false, cond}
 use mathlib.Core.List.{List, [], _∷_, _++_}
 use native.Mathlib.Numerals.{add-one}
 use native.Mathlib.Omega.{arith}
-use borrow.Author.Tests.{lt-ltb, le-ltb, eq-eqb, ne-eqb}
-use lib.Dec.{eqb}
+use borrow.Author.Tests.{eq-eqb, ne-eqb}
+use lib.Dec.{eqb, ltb}
 use lib.ListN.{length, set}
 use Rattle.graph.specs.declared.Edge.{Edge}
 use Rattle.search.specs.declared.Vertex.{Vertex}
@@ -15,8 +15,8 @@ use Rattle.search.specs.Turn.{lowered, relax, relaxAll, marked, expand}
 use Rattle.search.proofs.Moves.{length-relax, length-relaxAll}
 use Rattle.search.proofs.Tools.{cond-true, cond-false, same-cases}
 use Rattle.workspace.specs.declared.Size.{Size}
-use Rattle.workspace.specs.Layout.{verticesOf, written, firstOf, edgeAt, edgesRun, edgesAt, edgesUnder, graphOf, Fits, Ready}
-use Rattle.workspace.proofs.Written.{length-verticesOf, verticesOf-written, written-written, length-stored, loaded-of, ready-loaded, graphOf-written, ready-kept, length-kept, edge-kept, then-vertices, then-kept}
+use Rattle.workspace.specs.Layout.{Words, verticesOf, written, firstOf, edgeAt, edgesRun, edgesAt, edgesUnder, graphOf, Fits, Ready, Becomes}
+use Rattle.workspace.proofs.Written.{length-verticesOf, verticesOf-written, written-written, length-stored, ready-loaded, graphOf-written, ready-kept, length-kept, edge-kept, then-vertices, then-kept}
 
 -- ---- costs fit
 
@@ -30,14 +30,20 @@ fits-lowered c s x f h = record { g = omega (arith, f .g); v = f .v }
 
 -- ---- one edge
 
-module _ (s c : ℕ) (e : Edge) (st : List Vertex) where
-  pub relax-taken : c + e .cost < at st (e .head) .g → set st (e .head) (lowered (c + e .cost) s (at st (e .head))) ≡ relax s c e st
-  unfolding relax
-  relax-taken h = sym (cond-true _ _ (lt-ltb _ _ h))
+module _ (z : Size) (s c : ℕ) (e : Edge) (m : Words) where
+  -- the head of the edge
+  abbrev x : Vertex
+  x = at (verticesOf z m) (e .head)
 
-  pub relax-left : at st (e .head) .g ≤ c + e .cost → st ≡ relax s c e st
+  pub relax-taken :
+      (m′ : Words) → ltb (c + e .cost) (x .g) ≡ true → Becomes z (set (verticesOf z m) (e .head) (lowered (c + e .cost) s x)) m m′ →
+      Becomes z (relax s c e (verticesOf z m)) m m′
   unfolding relax
-  relax-left h = sym (cond-false _ _ (le-ltb _ _ h))
+  relax-taken m′ h f = rw h f
+
+  pub relax-left : ltb (c + e .cost) (x .g) ≡ false → Ready z m → Becomes z (relax s c e (verticesOf z m)) m m
+  unfolding relax
+  relax-left h r = rw h (record { words = sym (r .whole) })
 
 -- ---- all edges
 
@@ -91,66 +97,73 @@ module _ (z : Size) (w : List ℕ) (s c : ℕ) where
   unfolding edgesRun relaxAll
   run-end e j st h = let q : e - j ≡ 0 = omega arith in rw q
 
--- ---- the loop over the edges of s, from the first to before e: w₀ before it, w where edge j is next
+-- ---- the loop over the edges of s, from the first to before e: m₀ before it, m where edge j is next
 
-pub record Tried (z : Size) (s c first e : ℕ) (w₀ w : List ℕ) (j : ℕ) : Type 0 where
-  pub kept : w ≡ written z (verticesOf z w) w₀
+pub record Tried (z : Size) (s c first e : ℕ) (m₀ m : Words) (j : ℕ) : Type 0 where
+  pub kept : Becomes z (verticesOf z m) m₀ m
   pub rest :
-      relaxAll s c (edgesRun z w₀ s (e - j) j) (verticesOf z w) ≡ relaxAll s c (edgesRun z w₀ s (e - first) first) (verticesOf z w₀)
+      relaxAll s c (edgesRun z (m₀ .work) s (e - j) j) (verticesOf z m)
+      ≡ relaxAll s c (edgesRun z (m₀ .work) s (e - first) first) (verticesOf z m₀)
 
-module _ (z : Size) (s c first e : ℕ) (w₀ : List ℕ) (r : Ready z w₀) where
-  pub tried-none : Tried z s c first e w₀ w₀ first
-  tried-none = record { kept = sym (r .whole); rest = refl }
+module _ (z : Size) (s c first e : ℕ) (m₀ : Words) (r : Ready z m₀) where
+  pub tried-none : Tried z s c first e m₀ m₀ first
+  tried-none = record { kept = record { words = sym (r .whole) }; rest = refl }
 
-  module _ (w : List ℕ) (j : ℕ) (k : Tried z s c first e w₀ w j) where
-    pub tried-ready : Ready z w
-    tried-ready = ready-kept z w₀ w r (k .kept)
+  module _ (m : Words) (j : ℕ) (k : Tried z s c first e m₀ m j) where
+    pub tried-ready : Ready z m
+    tried-ready = ready-kept z m₀ m r (k .kept)
 
-    pub tried-length : length w ≡ length w₀
-    tried-length = length-kept z w₀ w r (k .kept)
+    pub tried-length : length (m .work) ≡ length (m₀ .work)
+    tried-length = length-kept z m₀ m r (k .kept)
 
     pub tried-next :
-        (d : Edge) (w′ : List ℕ) → j < e → j < z .edges → d ≡ edgeAt z w s j → w′ ≡ written z (relax s c d (verticesOf z w)) w →
-        Tried z s c first e w₀ w′ (j + 1)
-    tried-next d w′ h m g f =
-        let x : List Vertex = relax s c d (verticesOf z w) in
-        let l : length x ≡ z .vertices = length-relax s c d (verticesOf z w) ∙ length-verticesOf z w in
+        (d : Edge) (m′ : Words) → j < e → j < z .edges → d ≡ edgeAt z (m .work) s j → Becomes z (relax s c d (verticesOf z m)) m m′ →
+        Tried z s c first e m₀ m′ (j + 1)
+    tried-next d m′ h i g f =
+        let x : List Vertex = relax s c d (verticesOf z m) in
+        let l : length x ≡ z .vertices = length-relax s c d (verticesOf z m) ∙ length-verticesOf z m in
         record {
-          kept = then-kept z w₀ w r (k .kept) x w′ l f;
+          kept = then-kept z m₀ m r (k .kept) x m′ l f;
           rest =
-              ap (relaxAll s c (edgesRun z w₀ s (e - (j + 1)) (j + 1)))
-              (then-vertices z w₀ w r (k .kept) x w′ l f
-              ∙ ap (λ (y : Edge). relax s c y (verticesOf z w)) (g ∙ edge-kept z w₀ w r (k .kept) s j m))
-              ∙ sym (run-step z w₀ s c e j (verticesOf z w) h)
+              ap (relaxAll s c (edgesRun z (m₀ .work) s (e - (j + 1)) (j + 1)))
+              (then-vertices z m₀ m r (k .kept) x m′ l f
+              ∙ ap (λ (y : Edge). relax s c y (verticesOf z m)) (g ∙ edge-kept z m₀ m r (k .kept) s j i))
+              ∙ sym (run-step z (m₀ .work) s c e j (verticesOf z m) h)
               ∙ k .rest;
         }
 
     pub tried-all :
-        s < z .vertices → e ≤ j → first ≡ firstOf w₀ s → e ≡ firstOf w₀ (s + 1) →
-        w ≡ written z (relaxAll s c (graphOf z w₀) (verticesOf z w₀)) w₀
+        s < z .vertices → e ≤ j → first ≡ firstOf (m₀ .work) s → e ≡ firstOf (m₀ .work) (s + 1) →
+        Becomes z (relaxAll s c (graphOf z (m₀ .work)) (verticesOf z m₀)) m₀ m
     unfolding edgesAt
     tried-all h l a b =
-        let q : verticesOf z w ≡ relaxAll s c (edgesRun z w₀ s (firstOf w₀ (suc s) - firstOf w₀ s) (firstOf w₀ s)) (verticesOf z w₀) =
-        sym (run-end z w₀ s c e j (verticesOf z w) l) ∙ k .rest ∙ rw (a, b, add-one) refl in
-        k .kept ∙ ap (λ (x : List Vertex). written z x w₀) (q ∙ sym (relaxAll-of z w₀ s c (verticesOf z w₀) h))
+        let w : List ℕ = m₀ .work in
+        let q : verticesOf z m ≡ relaxAll s c (edgesRun z w s (firstOf w (suc s) - firstOf w s) (firstOf w s)) (verticesOf z m₀) =
+        sym (run-end z w s c e j (verticesOf z m) l) ∙ k .rest ∙ rw (a, b, add-one) refl in
+        record { words = k .kept .words ∙ ap (λ (x : List Vertex). written z x m₀) (q ∙ sym (relaxAll-of z w s c (verticesOf z m₀) h)) }
 
--- ---- expanding: w before, u with the vertex marked, y after its edges
+-- ---- expanding: m before, u with the vertex marked, y after its edges
 
-module _ (z : Size) (w u : List ℕ) (i s : ℕ) (r : Ready z w)
-    (f : u ≡ written z (set (verticesOf z w) s (marked i (at (verticesOf z w) s))) w) where
+module _ (z : Size) (m u : Words) (i s : ℕ) (r : Ready z m)
+    (f : Becomes z (set (verticesOf z m) s (marked i (at (verticesOf z m) s))) m u) where
   abbrev after : List Vertex
-  after = set (verticesOf z w) s (marked i (at (verticesOf z w) s))
+  after = set (verticesOf z m) s (marked i (at (verticesOf z m) s))
+
+  after-length : length after ≡ z .vertices
+  after-length = length-stored z m s (marked i (at (verticesOf z m) s))
 
   pub marked-ready : Ready z u
-  marked-ready = rw f (ready-loaded z w (loaded-of r) after (length-stored z w s (marked i (at (verticesOf z w) s))))
+  marked-ready = rw (f .words) (ready-loaded z m (r .room) (r .graph) after after-length)
 
   pub expanded :
-      (y : List ℕ) → y ≡ written z (relaxAll s (at (verticesOf z w) s .g) (graphOf z u) (verticesOf z u)) u →
-      y ≡ written z (expand (graphOf z w) i s (verticesOf z w)) w
+      (y : Words) → Becomes z (relaxAll s (at (verticesOf z m) s .g) (graphOf z (u .work)) (verticesOf z u)) u y →
+      Becomes z (expand (graphOf z (m .work)) i s (verticesOf z m)) m y
   unfolding expand
   expanded y g =
-      let l : length after ≡ z .vertices = length-stored z w s (marked i (at (verticesOf z w) s)) in
-      let c : ℕ = at (verticesOf z w) s .g in
-      let p : verticesOf z u ≡ after = ap (verticesOf z) f ∙ verticesOf-written z w (r .room) after l in
-      let q : graphOf z u ≡ graphOf z w = ap (graphOf z) f ∙ graphOf-written z w (loaded-of r) after l in
-      g ∙ rw (p, q, f) (written-written z w (r .room) after l (relaxAll s c (graphOf z w) after) (length-relaxAll s c (graphOf z w) after))
+      let c : ℕ = at (verticesOf z m) s .g in
+      let es : List Edge = graphOf z (m .work) in
+      let p : verticesOf z u ≡ after = ap (verticesOf z) (f .words) ∙ verticesOf-written z m (r .room) after after-length in
+      let q : graphOf z (u .work) ≡ es = ap (λ (x : Words). graphOf z (x .work)) (f .words) ∙ graphOf-written z m (r .room) (r .graph) after after-length in
+      record {
+        words = g .words ∙ rw (p, q, f .words) (written-written z m (r .room) after after-length (relaxAll s c es after) (length-relaxAll s c es after));
+      }

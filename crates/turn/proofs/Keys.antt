@@ -5,8 +5,8 @@ use mathlib.Core.Bool.{Bool, true, false, cond}
 use mathlib.Core.List.{List, [], _∷_}
 use native.Mathlib.Nat.{suc-mul, zero-mul, not-suc-le-zero, le-of-suc-le-suc}
 use native.Mathlib.Omega.{arith}
-use borrow.Author.Tests.{eq-eqb, ne-eqb}
-use lib.Dec.{leb}
+use borrow.Author.Tests.{lt-ltb, le-ltb, eq-eqb, ne-eqb}
+use lib.Dec.{leb, ltb}
 use lib.ListN.{getD, take, drop}
 use lib.Seq.{drop-drop}
 use Rattle.search.specs.declared.Best.{Best}
@@ -16,9 +16,21 @@ use Rattle.search.specs.declared.Vertex.{Vertex}
 use Rattle.search.specs.Turn.{least, candidate, choose}
 use Rattle.search.specs.Call.{tables}
 use Rattle.search.specs.Bounds.{Within}
+use Rattle.search.proofs.Tools.{le-cases}
 use Rattle.turn.specs.Asked.{sheet}
 
 -- ---- bounds
+
+-- a sum is below a number where one part is below what the other leaves
+module _ (g c n : ℕ) where
+  pub sum-below : c < n → ltb g (n - c) ≡ ltb (g + c) n
+  sum-below h =
+      le-cases (n - c) g
+      (λ l. le-ltb g (n - c) l ∙ sym (le-ltb (g + c) n (omega arith)))
+      (λ l. lt-ltb g (n - c) l ∙ sym (lt-ltb (g + c) n (omega arith)))
+
+  pub sum-not-below : n ≤ c → false ≡ ltb (g + c) n
+  sum-not-below h = sym (le-ltb (g + c) n (omega arith))
 
 module _ (n : ℕ) where
   -- what step 3 chooses is within bounds

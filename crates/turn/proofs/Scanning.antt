@@ -15,7 +15,7 @@ use Rattle.search.specs.Job.{at, fresh}
 use Rattle.search.specs.Turn.{key, offered, better, leastFrom, least}
 use Rattle.search.specs.Bounds.{maxKey, Within}
 use Rattle.workspace.specs.declared.Size.{Size}
-use Rattle.workspace.specs.Layout.{verticesOf}
+use Rattle.workspace.specs.Layout.{Words, verticesOf}
 use Rattle.workspace.proofs.Written.{length-verticesOf}
 
 -- ---- bounds
@@ -56,30 +56,30 @@ module _ (n : ℕ) where
 
 -- ---- the scan: b is the best of the vertices before s
 
-pub record Scanned (z : Size) (w hs : List ℕ) (i w1 s : ℕ) (b : Best) : Type 0 where
+pub record Scanned (z : Size) (m : Words) (hs : List ℕ) (i w1 s : ℕ) (b : Best) : Type 0 where
   pub within : s ≤ z .vertices
-  pub rest : leastFrom i w1 hs s b (drop s (verticesOf z w)) ≡ least i w1 hs (verticesOf z w)
+  pub rest : leastFrom i w1 hs s b (drop s (verticesOf z m)) ≡ least i w1 hs (verticesOf z m)
   pub fits : Within (z .vertices) b
 
-module _ (z : Size) (w hs : List ℕ) (i w1 : ℕ) where
-  pub scanned-none : (b : Best) → b ≡ Nobody → Scanned z w hs i w1 0 b
+module _ (z : Size) (m : Words) (hs : List ℕ) (i w1 : ℕ) where
+  pub scanned-none : (b : Best) → b ≡ Nobody → Scanned z m hs i w1 0 b
   unfolding least
   scanned-none b e = rw e record { within = omega arith; rest = refl; fits = within-nobody (z .vertices) }
 
-  module _ (s : ℕ) (b : Best) (k : Scanned z w hs i w1 s b) where
+  module _ (s : ℕ) (b : Best) (k : Scanned z m hs i w1 s b) where
     abbrev x : Vertex
-    x = at (verticesOf z w) s
+    x = at (verticesOf z m) s
 
     pub scanned-next :
         (b′ : Best) → s < z .vertices → b′ ≡ better (offered i (getD hs s 0) x) (key w1 (getD hs s 0) x) s b → Within (z .vertices) b′ →
-        Scanned z w hs i w1 (s + 1) b′
+        Scanned z m hs i w1 (s + 1) b′
     unfolding leastFrom at
     scanned-next b′ h e f =
-        let l : s < length (verticesOf z w) = omega (arith, length-verticesOf z w) in
-        record { within = omega arith; rest = rw (e, add-one) (rw (drop-cons (verticesOf z w) s fresh l) at (k .rest)); fits = f }
+        let l : s < length (verticesOf z m) = omega (arith, length-verticesOf z m) in
+        record { within = omega arith; rest = rw (e, add-one) (rw (drop-cons (verticesOf z m) s fresh l) at (k .rest)); fits = f }
 
-    pub scanned-all : (r : Best) → r ≡ b → z .vertices ≤ s → (r ≡ least i w1 hs (verticesOf z w)) × Within (z .vertices) r
+    pub scanned-all : (r : Best) → r ≡ b → z .vertices ≤ s → (r ≡ least i w1 hs (verticesOf z m)) × Within (z .vertices) r
     unfolding leastFrom
     scanned-all r e h =
-        let l : length (verticesOf z w) ≤ s = omega (arith, length-verticesOf z w) in
-        (e ∙ rw (drop-of-length-le (verticesOf z w) l) at (k .rest), rw e (k .fits))
+        let l : length (verticesOf z m) ≤ s = omega (arith, length-verticesOf z m) in
+        (e ∙ rw (drop-of-length-le (verticesOf z m) l) at (k .rest), rw e (k .fits))

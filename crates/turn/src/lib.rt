@@ -10,7 +10,7 @@ ghost use lib.ListN.{length, set};
 ghost use Rattle.search.specs.Job.{at};
 ghost use Rattle.search.specs.Turn.{least, stepOne, candidate, expand};
 ghost use Rattle.search.specs.Bounds.{maxFactor, DueWithin, maxKey, Within};
-ghost use Rattle.workspace.specs.Layout.{Room, verticesOf, graphOf, written};
+ghost use Rattle.workspace.specs.Layout.{mem, Room, verticesOf, graphOf, Becomes};
 ghost use Rattle.turn.specs.Asked.{sheet, choiceOf, choiceWord, Asked};
 use search::Best;
 use search::Choice;
@@ -21,8 +21,8 @@ use workspace::vertex_words;
 
 // Step 1: nothing is open, the round is finished, or a turn is due.
 pub fn step_one(work: &[u32], anchor: &[u32], z: Size, f: Factors, goal: u32) -> Step
-    requires { ⌜ Room z (now work) × (z .vertices ≤ length (now anchor)) × (goal < z .vertices) × (f .w1 ≤ maxFactor) × (f .w2 ≤ maxFactor) ⌝ }
-    ensures { λ r. ⌜ (r ≡ stepOne (f .w2) (at (verticesOf z (now (work .entry))) goal .g) (least 0 (f .w1) (now (anchor .entry)) (verticesOf z (now (work .entry))))) × DueWithin (z .vertices) r ⌝ }
+    requires { ⌜ Room z (mem (now work)) × (z .vertices ≤ length (now anchor)) × (goal < z .vertices) × (f .w1 ≤ maxFactor) × (f .w2 ≤ maxFactor) ⌝ }
+    ensures { λ r. ⌜ (r ≡ stepOne (f .w2) (at (verticesOf z (mem (now (work .entry)))) goal .g) (least 0 (f .w1) (now (anchor .entry)) (verticesOf z (mem (now (work .entry)))))) × DueWithin (z .vertices) r ⌝ }
 {
     let w1 = f.w1;
     let w2 = f.w2;
@@ -33,8 +33,8 @@ pub fn step_one(work: &[u32], anchor: &[u32], z: Size, f: Factors, goal: u32) ->
 
 // The best of inadmissible heuristic i; nobody where there are no guides.
 fn candidate(work: &[u32], guides: &[u32], z: Size, i: u32, w1: u32) -> Best
-    requires { ⌜ Room z (now work) × (i * z .vertices ≤ length (now guides)) × (w1 ≤ maxFactor) ⌝ }
-    ensures { λ r. ⌜ (r ≡ candidate i w1 (sheet (z .vertices) i (now (guides .entry))) (verticesOf z (now (work .entry)))) × Within (z .vertices) r ⌝ }
+    requires { ⌜ Room z (mem (now work)) × (i * z .vertices ≤ length (now guides)) × (w1 ≤ maxFactor) ⌝ }
+    ensures { λ r. ⌜ (r ≡ candidate i w1 (sheet (z .vertices) i (now (guides .entry))) (verticesOf z (mem (now (work .entry))))) × Within (z .vertices) r ⌝ }
 {
     if i == 0 {
         return Best::Nobody;
@@ -48,8 +48,8 @@ fn candidate(work: &[u32], guides: &[u32], z: Size, i: u32, w1: u32) -> Best
 
 // Step 3: what a turn of heuristic i expands, where the anchor's least key is m at vertex a.
 fn choice(work: &[u32], guides: &[u32], z: Size, f: Factors, m: u64, a: u32, i: u32) -> Choice
-    requires { ⌜ Asked z f (now guides) (now work) i × (m ≤ maxKey) × (a < z .vertices) ⌝ }
-    ensures { λ r. ⌜ (r ≡ choiceOf z f (now (guides .entry)) (now (work .entry)) m a i) × (r .vertex < z .vertices) × (r .heuristic ≤ i) ⌝ }
+    requires { ⌜ Asked z f (now guides) (mem (now work)) i × (m ≤ maxKey) × (a < z .vertices) ⌝ }
+    ensures { λ r. ⌜ (r ≡ choiceOf z f (now (guides .entry)) (mem (now (work .entry))) m a i) × (r .vertex < z .vertices) × (r .heuristic ≤ i) ⌝ }
 {
     let w1 = f.w1;
     let w2 = f.w2;
@@ -82,9 +82,9 @@ pub fn turn(
     i: u32,
     k: u32,
 )
-    requires { ⌜ Asked z f (now guides) (now work) i × (m ≤ maxKey) × (a < z .vertices) ⌝ }
-    ensures { λ _. ⌜ now (work .exit) ≡ written z (expand (graphOf z (now (work .entry))) (choiceOf z f (now (guides .entry)) (now (work .entry)) m a i .heuristic) (choiceOf z f (now (guides .entry)) (now (work .entry)) m a i .vertex) (verticesOf z (now (work .entry)))) (now (work .entry)) ⌝ }
-    ensures { λ _. ⌜ now (log .exit) ≡ set (now (log .entry)) k (choiceWord (choiceOf z f (now (guides .entry)) (now (work .entry)) m a i)) ⌝ }
+    requires { ⌜ Asked z f (now guides) (mem (now work)) i × (m ≤ maxKey) × (a < z .vertices) ⌝ }
+    ensures { λ _. ⌜ Becomes z (expand (graphOf z (now (work .entry))) (choiceOf z f (now (guides .entry)) (mem (now (work .entry))) m a i .heuristic) (choiceOf z f (now (guides .entry)) (mem (now (work .entry))) m a i .vertex) (verticesOf z (mem (now (work .entry))))) (mem (now (work .entry))) (mem (now (work .exit))) ⌝ }
+    ensures { λ _. ⌜ now (log .exit) ≡ set (now (log .entry)) k (choiceWord (choiceOf z f (now (guides .entry)) (mem (now (work .entry))) m a i)) ⌝ }
 {
     let c = choice(work, guides, z, f, m, a, i);
     note(log, k, c);

@@ -8,7 +8,7 @@ ghost use Rattle.search.specs.Job.{at};
 ghost use Rattle.search.specs.Turn.{key, offered, better, least};
 ghost use Rattle.search.specs.Bounds.{maxFactor, maxKey, Within};
 ghost use Rattle.turn.specs.Lead.{bestOf};
-ghost use Rattle.workspace.specs.Layout.{Room, verticesOf};
+ghost use Rattle.workspace.specs.Layout.{mem, Room, verticesOf};
 use crate::vertices;
 use search::Best;
 use workspace::Size;
@@ -56,8 +56,8 @@ impl Lead {
 
 // The better of the best so far and vertex s.
 fn consider(work: &[u32], numbers: &[u32], z: Size, i: u32, w1: u32, s: u32, lead: Lead) -> Lead
-    requires { ⌜ Room z (now work) × (s < z .vertices) × (z .vertices ≤ length (now numbers)) × (w1 ≤ maxFactor) × Within (z .vertices) (bestOf lead) ⌝ }
-    ensures { λ r. ⌜ (bestOf r ≡ better (offered i (getD (now (numbers .entry)) s 0) (at (verticesOf z (now (work .entry))) s)) (key w1 (getD (now (numbers .entry)) s 0) (at (verticesOf z (now (work .entry))) s)) s (bestOf lead)) × Within (z .vertices) (bestOf r) ⌝ }
+    requires { ⌜ Room z (mem (now work)) × (s < z .vertices) × (z .vertices ≤ length (now numbers)) × (w1 ≤ maxFactor) × Within (z .vertices) (bestOf lead) ⌝ }
+    ensures { λ r. ⌜ (bestOf r ≡ better (offered i (getD (now (numbers .entry)) s 0) (at (verticesOf z (mem (now (work .entry)))) s)) (key w1 (getD (now (numbers .entry)) s 0) (at (verticesOf z (mem (now (work .entry)))) s)) s (bestOf lead)) × Within (z .vertices) (bestOf r) ⌝ }
 {
     let h = numbers[s as usize];
     let x = vertex_words::load(work, z, s);
@@ -69,8 +69,8 @@ fn consider(work: &[u32], numbers: &[u32], z: Size, i: u32, w1: u32, s: u32, lea
 
 // The best vertex of heuristic i, whose numbers are given.
 pub fn least(work: &[u32], numbers: &[u32], z: Size, i: u32, w1: u32) -> Best
-    requires { ⌜ Room z (now work) × (z .vertices ≤ length (now numbers)) × (w1 ≤ maxFactor) ⌝ }
-    ensures { λ r. ⌜ (r ≡ least i w1 (now (numbers .entry)) (verticesOf z (now (work .entry)))) × Within (z .vertices) r ⌝ }
+    requires { ⌜ Room z (mem (now work)) × (z .vertices ≤ length (now numbers)) × (w1 ≤ maxFactor) ⌝ }
+    ensures { λ r. ⌜ (r ≡ least i w1 (now (numbers .entry)) (verticesOf z (mem (now (work .entry))))) × Within (z .vertices) r ⌝ }
 {
     let vertices = z.vertices;
     let mut lead = Lead::none();

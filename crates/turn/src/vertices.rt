@@ -1,6 +1,7 @@
 // A vertex by value: its key, whether a heuristic is offered it, and what a turn makes of it.
 ghost use mathlib.Core.Path.{_≡_};
-ghost use Prim.Native.Nat.{_≤_};
+ghost use Prim.Native.Nat.{_≤_, _+_};
+ghost use lib.Dec.{ltb};
 ghost use Rattle.search.specs.Turn.{key, offered, marked, lowered};
 ghost use Rattle.search.specs.Bounds.{maxFactor, maxG, maxKey};
 use search::Vertex;
@@ -52,6 +53,17 @@ pub fn marked(x: Vertex, i: u32) -> Vertex
         opened: false,
         incons: x.incons,
     }
+}
+
+// Whether g and the cost of an edge are below `old`, without a sum that could overflow.
+pub fn undercuts(g: u64, cost: u32, old: u64) -> bool
+    ensures { λ r. ⌜ r ≡ ltb (g + cost) old ⌝ }
+{
+    let c = cost as u64;
+    if c < old {
+        return g < old - c;
+    }
+    false
 }
 
 // The head of an edge of s at its lower cost c: held if it has the anchor mark, else open.

@@ -11,7 +11,7 @@ use Rattle.graph.specs.Lists.{over}
 use Rattle.search.specs.declared.Vertex.{Vertex}
 use Rattle.search.specs.Job.{at}
 use Rattle.search.specs.Outcome.{markWord, vertexWords}
-use Rattle.workspace.specs.Layout.{hasMark, vertexAt, verticesIn, withVertex}
+use Rattle.workspace.specs.Layout.{hasMark, vertexAt, verticesIn, wordsWith}
 
 -- ---- the marks
 
@@ -107,31 +107,31 @@ over-over (p ∷ ps) (q ∷ qs) w e =
 
 -- ---- one vertex stored
 
-withVertex-past :
-    (a b c d : ℕ) (r : List ℕ) (o : ℕ) (x : Vertex) → withVertex (a ∷ b ∷ c ∷ d ∷ r) (4 + o) x ≡ a ∷ b ∷ c ∷ d ∷ withVertex r o x
-unfolding withVertex
-withVertex-past a b c d r o x =
+wordsWith-past :
+    (a b c d : ℕ) (r : List ℕ) (o : ℕ) (x : Vertex) → wordsWith (a ∷ b ∷ c ∷ d ∷ r) (4 + o) x ≡ a ∷ b ∷ c ∷ d ∷ wordsWith r o x
+unfolding wordsWith
+wordsWith-past a b c d r o x =
     let e0 : 4 + o ≡ suc (suc (suc (suc o))) = omega arith in
     let e1 : suc (suc (suc (suc o))) + 1 ≡ suc (suc (suc (suc (o + 1)))) = omega arith in
     let e2 : suc (suc (suc (suc o))) + 2 ≡ suc (suc (suc (suc (o + 2)))) = omega arith in
     let e3 : suc (suc (suc (suc o))) + 3 ≡ suc (suc (suc (suc (o + 3)))) = omega arith in
     rw (e0, e1, e2, e3)
 
-first-stored : (a b c d : ℕ) (r : List ℕ) (x : Vertex) → withVertex (a ∷ b ∷ c ∷ d ∷ r) (4 * 0) x ≡ x .g ∷ x .v ∷ x .pred ∷ markWord x ∷ r
-unfolding withVertex
+first-stored : (a b c d : ℕ) (r : List ℕ) (x : Vertex) → wordsWith (a ∷ b ∷ c ∷ d ∷ r) (4 * 0) x ≡ x .g ∷ x .v ∷ x .pred ∷ markWord x ∷ r
+unfolding wordsWith
 first-stored a b c d r x = refl
 
-pub over-set : (st : List Vertex) (w : List ℕ) (p : ℕ) (x : Vertex) → p < length st → over (vertexWords (set st p x)) w ≡ withVertex (over (vertexWords st) w) (4 * p) x
+pub over-set : (st : List Vertex) (w : List ℕ) (p : ℕ) (x : Vertex) → p < length st → over (vertexWords (set st p x)) w ≡ wordsWith (over (vertexWords st) w) (4 * p) x
 over-set [] w p x h = absurd (not-suc-le-zero h)
-over-set (q ∷ qs) w zero x h = over-cons x qs w ∙ sym (ap (λ (l : List ℕ). withVertex l (4 * 0) x) (over-cons q qs w) ∙ first-stored _ _ _ _ _ x)
+over-set (q ∷ qs) w zero x h = over-cons x qs w ∙ sym (ap (λ (l : List ℕ). wordsWith l (4 * 0) x) (over-cons q qs w) ∙ first-stored _ _ _ _ _ x)
 over-set (q ∷ qs) w (suc p) x h =
     let e : 4 * suc p ≡ 4 + 4 * p = omega arith in
-    rw (e, over-cons q qs w, over-cons q (set qs p x) w, withVertex-past, over-set qs (drop 4 w) p x (le-of-suc-le-suc h))
+    rw (e, over-cons q qs w, over-cons q (set qs p x) w, wordsWith-past, over-set qs (drop 4 w) p x (le-of-suc-le-suc h))
 
 -- one vertex more from the front, all the same
 pub over-more :
     (n : ℕ) (x : Vertex) (w : List ℕ) → 4 * suc n ≤ length w →
-    withVertex (over (vertexWords (replicate n x)) w) (4 * n) x ≡ over (vertexWords (replicate (suc n) x)) w
+    wordsWith (over (vertexWords (replicate n x)) w) (4 * n) x ≡ over (vertexWords (replicate (suc n) x)) w
 over-more zero x [] h = absurd (omega arith)
 over-more zero x (a ∷ []) h = absurd (omega arith)
 over-more zero x (a ∷ b ∷ []) h = absurd (omega arith)
@@ -140,4 +140,4 @@ over-more zero x (a ∷ b ∷ c ∷ d ∷ w) h = rw (over-none (a ∷ b ∷ c �
 over-more (suc n) x w h =
     let e : 4 * suc n ≡ 4 + 4 * n = omega arith in
     let l : 4 * suc n ≤ length (drop 4 w) = simp length-drop (omega arith) in
-    rw (e, over-cons x (replicate n x) w, over-cons x (replicate (suc n) x) w, withVertex-past, over-more n x (drop 4 w) l)
+    rw (e, over-cons x (replicate n x) w, over-cons x (replicate (suc n) x) w, wordsWith-past, over-more n x (drop 4 w) l)

@@ -13,10 +13,10 @@ use Rattle.graph.proofs.Plan.{whole}
 use Rattle.search.specs.declared.Vertex.{Vertex}
 use Rattle.search.specs.Outcome.{edgesBelow, firstEdges, vertexWords, workWords}
 use Rattle.workspace.specs.declared.Size.{Size}
-use Rattle.workspace.specs.Layout.{base, Room, verticesOf, written, firstOf, edgeAt, edgesRun, edgesAt, edgesUnder, graphOf, graphWords, Ready}
+use Rattle.workspace.specs.Layout.{base, Words, mem, WorkRoom, Room, verticesOf, written, firstOf, edgeAt, edgesRun, edgesAt, edgesUnder, graphOf, graphWords, Loaded, Ready, Becomes}
 use Rattle.workspace.specs.Holds.{Rising, then, Holds}
 use Rattle.workspace.proofs.Firsts.{passes-rising, below-none, below-all, below-rise, below-most, tail-at, length-firsts, length-graph}
-use Rattle.workspace.proofs.Written.{length-written, verticesOf-written, written-written, Loaded, ready-loaded, graphOf-written}
+use Rattle.workspace.proofs.Written.{length-written, verticesOf-written, written-written, ready-loaded, graphOf-written}
 
 -- the edges of an accepted plan rise
 pub accepted-rising : (s : List ℕ) (v : ℕ) (es : List Edge) → decode s ≡ accepted v es → Rising v 0 es
@@ -127,7 +127,7 @@ module _ (z : Size) (es : List Edge) (r : List ℕ) (le : length es ≡ z .edges
   unfolding graphOf
   graph-is = under-is (z .vertices) 0 (omega arith) ∙ rw (below-none 0 es rise (omega arith))
 
-  pub graph-loaded : Room z words → Loaded z words
+  pub graph-loaded : WorkRoom z words → Loaded z words
   unfolding edgeAt
   graph-loaded room =
       record {
@@ -147,82 +147,92 @@ work-words v es st =
     (append-assoc (firstEdges (suc v) 0 es) (map headOf es ++ map costOf es) (vertexWords st)
     ∙ ap (λ (l : List ℕ). firstEdges (suc v) 0 es ++ l) (append-assoc (map headOf es) (map costOf es) (vertexWords st)))
 
-module _ (z : Size) (es : List Edge) (old : List ℕ) (le : length es ≡ z .edges) where
+-- a graph over the words of memory
+abbrev pub withGraph : Size → List Edge → Words → Words
+withGraph z es old = mem (over (graphWords (z .vertices) es) (old .work))
+
+module _ (z : Size) (es : List Edge) (old : Words) (le : length es ≡ z .edges) where
   graph-length : length (graphWords (z .vertices) es) ≡ base z
   unfolding base
   graph-length = length-graph (z .vertices) es ∙ ap (λ (k : ℕ). z .vertices + 1 + 2 * k) le
 
   -- vertices over a graph over the words
-  pub work-written : (st : List Vertex) → written z st (over (graphWords (z .vertices) es) old) ≡ over (workWords (z .vertices) es st) old
+  work-written : (st : List Vertex) → written z st (withGraph z es old) .work ≡ over (workWords (z .vertices) es st) (old .work)
   unfolding written over
   work-written st =
       let g : List ℕ = graphWords (z .vertices) es in
       let n : length (g ++ vertexWords st) ≡ length g + length (vertexWords st) = length-append g (vertexWords st) in
       rw (
-        take-at g (drop (length g) old) (base z) graph-length,
-        drop-at g (drop (length g) old) (base z) graph-length,
-        drop-drop (length (vertexWords st)) (length g) old,
+        take-at g (drop (length g) (old .work)) (base z) graph-length,
+        drop-at g (drop (length g) (old .work)) (base z) graph-length,
+        drop-drop (length (vertexWords st)) (length g) (old .work),
         work-words (z .vertices) es st,
         n,
       )
-      (sym (append-assoc g (vertexWords st) (drop (length g + length (vertexWords st)) old)))
+      (sym (append-assoc g (vertexWords st) (drop (length g + length (vertexWords st)) (old .work))))
 
-  pub graph-room : Room z old → Room z (over (graphWords (z .vertices) es) old)
+  pub graph-room : Room z old → Room z (withGraph z es old)
   unfolding over
   graph-room room =
       let g : List ℕ = graphWords (z .vertices) es in
-      omega (arith, length-append g (drop (length g) old), length-drop (length g) old, graph-length)
+      record { work = omega (arith, length-append g (drop (length g) (old .work)), length-drop (length g) (old .work), graph-length, room .work) }
 
 -- a graph loaded over the words, and vertices laid
 pub holds-laid :
-    (z : Size) (es : List Edge) (st : List Vertex) (old u w : List ℕ) → Room z old → length es ≡ z .edges → Rising (z .vertices) 0 es →
-    length st ≡ z .vertices → u ≡ over (graphWords (z .vertices) es) old → w ≡ written z st u → Holds z es st old w
-holds-laid z es st old u w room le rise lv f g =
+    (z : Size) (es : List Edge) (st : List Vertex) (old u m : Words) → Room z old → length es ≡ z .edges → Rising (z .vertices) 0 es →
+    length st ≡ z .vertices → u .work ≡ over (graphWords (z .vertices) es) (old .work) → Becomes z st u m → Holds z es st old m
+holds-laid z es st old u m room le rise lv f g =
     record {
-      words = g ∙ ap (written z st) f ∙ work-written z es old le st;
+      words = ap (λ (x : Words). x .work) (g .words ∙ ap (written z st) (ap mem f)) ∙ work-written z es old le st;
       room = room;
       vertices = lv;
       edges = le;
       rising = rise;
     }
 
-module _ (z : Size) (es : List Edge) (st : List Vertex) (old w : List ℕ) (h : Holds z es st old w) where
-  abbrev loaded : List ℕ
-  loaded = over (graphWords (z .vertices) es) old
+module _ (z : Size) (es : List Edge) (st : List Vertex) (old m : Words) (h : Holds z es st old m) where
+  abbrev loaded : Words
+  loaded = withGraph z es old
 
-  as-written : w ≡ written z st loaded
-  as-written = h .words ∙ sym (work-written z es old (h .edges) st)
+  as-written : m ≡ written z st loaded
+  as-written = ap mem (h .words ∙ sym (work-written z es old (h .edges) st))
 
   loaded-room : Room z loaded
   loaded-room = graph-room z es old (h .edges) (h .room)
 
-  loaded-graph : Loaded z loaded
+  loaded-graph : Loaded z (loaded .work)
   unfolding over
-  loaded-graph = graph-loaded z es (drop (length (graphWords (z .vertices) es)) old) (h .edges) (h .rising) loaded-room
+  loaded-graph =
+      graph-loaded z es (drop (length (graphWords (z .vertices) es)) (old .work)) (h .edges) (h .rising) (loaded-room .work)
 
-  pub holds-vertices : verticesOf z w ≡ st
+  pub holds-vertices : verticesOf z m ≡ st
   holds-vertices = ap (verticesOf z) as-written ∙ verticesOf-written z loaded loaded-room st (h .vertices)
 
-  pub holds-graph : graphOf z w ≡ es
+  pub holds-graph : graphOf z (m .work) ≡ es
   unfolding over
   holds-graph =
-      ap (graphOf z) as-written
-      ∙ graphOf-written z loaded loaded-graph st (h .vertices)
-      ∙ graph-is z es (drop (length (graphWords (z .vertices) es)) old) (h .edges) (h .rising)
+      ap (λ (x : Words). graphOf z (x .work)) as-written
+      ∙ graphOf-written z loaded loaded-room loaded-graph st (h .vertices)
+      ∙ graph-is z es (drop (length (graphWords (z .vertices) es)) (old .work)) (h .edges) (h .rising)
 
-  pub holds-ready : Ready z w
-  holds-ready = rw as-written (ready-loaded z loaded loaded-graph st (h .vertices))
+  pub holds-ready : Ready z m
+  holds-ready = rw as-written (ready-loaded z loaded loaded-room loaded-graph st (h .vertices))
 
-  pub holds-length : length w ≡ length old
+  pub holds-length : length (m .work) ≡ length (old .work)
   unfolding over
   holds-length =
       let g : List ℕ = graphWords (z .vertices) es in
-      ap length as-written
+      ap (λ (x : Words). length (x .work)) as-written
       ∙ length-written z loaded loaded-room st (h .vertices)
-      ∙ omega (arith, length-append g (drop (length g) old), length-drop (length g) old, graph-length z es old (h .edges), h .room)
+      ∙ omega (arith, length-append g (drop (length g) (old .work)), length-drop (length g) (old .work), graph-length z es old (h .edges), h .room .work)
 
   -- other vertices written
-  pub holds-written : (su : List Vertex) (w′ : List ℕ) → length su ≡ z .vertices → w′ ≡ written z su w → Holds z es su old w′
-  holds-written su w′ e f =
-      holds-laid z es su old loaded w′ (h .room) (h .edges) (h .rising) e refl
-      (f ∙ ap (written z su) as-written ∙ written-written z loaded loaded-room st (h .vertices) su (e ∙ sym (h .vertices)))
+  pub holds-written : (su : List Vertex) (m′ : Words) → length su ≡ z .vertices → Becomes z su m m′ → Holds z es su old m′
+  holds-written su m′ e f =
+      holds-laid z es su old loaded m′ (h .room) (h .edges) (h .rising) e refl
+      (record {
+        words =
+            f .words
+            ∙ ap (written z su) as-written
+            ∙ written-written z loaded loaded-room st (h .vertices) su (e ∙ sym (h .vertices));
+      })

@@ -10,7 +10,7 @@ use Rattle.search.specs.declared.Vertex.{Vertex}
 use Rattle.search.specs.Job.{fresh, origin, at, atFirst, unreached}
 use Rattle.search.specs.Rounds.{reopened}
 use Rattle.workspace.specs.declared.Size.{Size}
-use Rattle.workspace.specs.Layout.{base, Room, verticesOf, written, withVertex, Fits, Ready}
+use Rattle.workspace.specs.Layout.{Words, Room, verticesOf, written, withVertex, Fits, Ready, Becomes}
 use Rattle.workspace.proofs.Written.{written-set, written-more, length-verticesOf, length-stored, then-vertices, then-kept}
 
 pub fits-fresh : Fits fresh
@@ -27,17 +27,19 @@ fits-reopened x f = record { g = f .g; v = f .v }
 
 -- ---- the loop that makes the vertices fresh
 
-module _ (z : Size) (w₀ w w′ : List ℕ) (p : ℕ) (r : Room z w₀) (e : w ≡ written z (replicate p fresh) w₀) where
-  pub fresh-more : p < z .vertices → w′ ≡ withVertex w (base z + 4 * p) fresh → w′ ≡ written z (replicate (p + 1) fresh) w₀
-  fresh-more h f = f ∙ ap (λ l. withVertex l (base z + 4 * p) fresh) e ∙ rw add-one (written-more z w₀ r p fresh h)
+module _ (z : Size) (m₀ m m′ : Words) (p : ℕ) (r : Room z m₀) (e : m ≡ written z (replicate p fresh) m₀) where
+  pub fresh-more : p < z .vertices → m′ ≡ withVertex z m p fresh → m′ ≡ written z (replicate (p + 1) fresh) m₀
+  fresh-more h f = f ∙ ap (λ (x : Words). withVertex z x p fresh) e ∙ rw add-one (written-more z m₀ r p fresh h)
 
   pub fresh-all :
-      (start : ℕ) → p ≡ z .vertices → start < z .vertices → w′ ≡ withVertex w (base z + 4 * start) origin →
-      w′ ≡ written z (atFirst (z .vertices) start) w₀
+      (start : ℕ) → p ≡ z .vertices → start < z .vertices → m′ ≡ withVertex z m start origin → Becomes z (atFirst (z .vertices) start) m₀ m′
   unfolding atFirst
   fresh-all start q h f =
-      f ∙ ap (λ l. withVertex l (base z + 4 * start) origin) (rw q at e)
-      ∙ written-set z w₀ r (replicate (z .vertices) fresh) start origin (rw length-replicate h)
+      record {
+        words =
+            f ∙ ap (λ (x : Words). withVertex z x start origin) (rw q at e)
+            ∙ written-set z m₀ r (replicate (z .vertices) fresh) start origin (rw length-replicate h);
+      }
 
 -- ---- the loop that opens the vertices again: st₀ before it, st at its head
 
@@ -54,32 +56,35 @@ module _ (st₀ st : List Vertex) (p : ℕ) where
   opened-all : length st ≤ p → Opened st p → st ≡ map reopened st₀
   opened-all h e = rw (take-all p st h, drop-of-length-le st h, append-nil) at e
 
--- the first p vertices are open again, the rest of work memory unchanged
-pub record Reopening (z : Size) (w₀ w : List ℕ) (p : ℕ) : Type 0 where
+-- the first p vertices are open again, the rest of memory unchanged
+pub record Reopening (z : Size) (m₀ m : Words) (p : ℕ) : Type 0 where
   pub within : p ≤ z .vertices
-  pub kept : w ≡ written z (verticesOf z w) w₀
-  pub opened : Opened (verticesOf z w₀) (verticesOf z w) p (verticesOf z w) p
+  pub kept : Becomes z (verticesOf z m) m₀ m
+  pub opened : Opened (verticesOf z m₀) (verticesOf z m) p (verticesOf z m) p
 
-module _ (z : Size) (w₀ : List ℕ) (r : Ready z w₀) where
-  pub reopening-none : Reopening z w₀ w₀ 0
-  reopening-none = record { within = omega arith; kept = sym (r .whole); opened = refl }
+module _ (z : Size) (m₀ : Words) (r : Ready z m₀) where
+  pub reopening-none : Reopening z m₀ m₀ 0
+  reopening-none = record { within = omega arith; kept = record { words = sym (r .whole) }; opened = refl }
 
-  module _ (w : List ℕ) (p : ℕ) (k : Reopening z w₀ w p) where
+  module _ (m : Words) (p : ℕ) (k : Reopening z m₀ m p) where
     pub reopening-more :
-        (w′ : List ℕ) → p < z .vertices → w′ ≡ written z (set (verticesOf z w) p (reopened (at (verticesOf z w) p))) w →
-        Reopening z w₀ w′ (p + 1)
-    reopening-more w′ h f =
-        let x : List Vertex = set (verticesOf z w) p (reopened (at (verticesOf z w) p)) in
-        let e : length x ≡ z .vertices = length-stored z w p (reopened (at (verticesOf z w) p)) in
+        (m′ : Words) → p < z .vertices → Becomes z (set (verticesOf z m) p (reopened (at (verticesOf z m) p))) m m′ →
+        Reopening z m₀ m′ (p + 1)
+    reopening-more m′ h f =
+        let x : List Vertex = set (verticesOf z m) p (reopened (at (verticesOf z m) p)) in
+        let e : length x ≡ z .vertices = length-stored z m p (reopened (at (verticesOf z m) p)) in
         record {
           within = omega arith;
-          kept = then-kept z w₀ w r (k .kept) x w′ e f;
+          kept = then-kept z m₀ m r (k .kept) x m′ e f;
           opened =
-              rw (then-vertices z w₀ w r (k .kept) x w′ e f)
-              (opened-more (verticesOf z w₀) (verticesOf z w) p (omega (arith, length-verticesOf z w)) (k .opened));
+              rw (then-vertices z m₀ m r (k .kept) x m′ e f)
+              (opened-more (verticesOf z m₀) (verticesOf z m) p (omega (arith, length-verticesOf z m)) (k .opened));
         }
 
-    pub reopening-all : z .vertices ≤ p → w ≡ written z (map reopened (verticesOf z w₀)) w₀
+    pub reopening-all : z .vertices ≤ p → Becomes z (map reopened (verticesOf z m₀)) m₀ m
     reopening-all h =
-        k .kept
-        ∙ ap (λ x. written z x w₀) (opened-all (verticesOf z w₀) (verticesOf z w) p (omega (arith, length-verticesOf z w)) (k .opened))
+        record {
+          words =
+              k .kept .words
+              ∙ ap (λ x. written z x m₀) (opened-all (verticesOf z m₀) (verticesOf z m) p (omega (arith, length-verticesOf z m)) (k .opened));
+        }

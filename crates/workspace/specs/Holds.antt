@@ -8,16 +8,16 @@ use Rattle.graph.specs.Lists.{over}
 use Rattle.search.specs.declared.Vertex.{Vertex}
 use Rattle.search.specs.Outcome.{workWords}
 use Rattle.workspace.specs.declared.Size.{Size}
-use Rattle.workspace.specs.Layout.{Room}
+use Rattle.workspace.specs.Layout.{Words, Room}
 
 -- edges of v vertices, whose tails rise from p on
 pub data Rising (v : ℕ) : ℕ → List Edge → Type 0 where
   end : {p : ℕ} → Rising v p []
   then : {p : ℕ} {e : Edge} {es : List Edge} → p ≤ e .tail → e .tail < v → e .head < v → Rising v (e .tail) es → Rising v p (e ∷ es)
 
--- the words w are those of the edges es and the vertices st, laid over the words `old`
-pub record Holds (z : Size) (es : List Edge) (st : List Vertex) (old w : List ℕ) : Type 0 where
-  pub words : w ≡ over (workWords (z .vertices) es st) old
+-- memory m is that of the edges es and the vertices st, laid over `old`
+pub record Holds (z : Size) (es : List Edge) (st : List Vertex) (old m : Words) : Type 0 where
+  pub words : m .work ≡ over (workWords (z .vertices) es st) (old .work)
   pub room : Room z old
   pub vertices : length st ≡ z .vertices
   pub edges : length es ≡ z .edges

@@ -1,14 +1,15 @@
 -- The layout of work memory (V+1 first edge numbers, M heads, M costs, four words for each vertex): for contracts inside the planner call, nothing that a reader must believe.
 use Prim.Native.Nat.{ℕ, zero, suc, _+_, _-_, _*_, _/_, _%_, _≤_, _<_}
 use mathlib.Core.Path.{_≡_}
-use mathlib.Core.Bool.{Bool}
+use mathlib.Core.Bool.{Bool, cond}
 use mathlib.Core.List.{List, [], _∷_, _++_, map}
-use lib.Dec.{eqb}
+use lib.Dec.{eqb, ltb}
 use lib.ListN.{length, getD, set, take, drop, replicate}
 use lib.Seq.{sets}
 use Rattle.graph.specs.declared.Edge.{Edge}
 use Rattle.graph.specs.Lists.{headOf, costOf, over}
 use Rattle.search.specs.declared.Vertex.{Vertex}
+use Rattle.search.specs.Job.{noPred}
 use Rattle.search.specs.Outcome.{firstEdges, markWord, vertexWords}
 use Rattle.search.specs.Bounds.{maxG}
 use Rattle.workspace.specs.declared.Size.{Size}
@@ -17,9 +18,21 @@ use Rattle.workspace.specs.declared.Size.{Size}
 unfoldable pub base : Size → ℕ
 base z = z .vertices + 1 + 2 * z .edges
 
--- room for the graph and the vertices
-abbrev pub Room : Size → List ℕ → Type 0
-Room z w = base z + 4 * z .vertices ≤ length w
+-- lent memory in which vertices lie: work memory alone
+pub record Words : Type 0 where
+  pub work : List ℕ
+
+-- memory of these words
+abbrev pub mem : List ℕ → Words
+mem w = record { work = w }
+
+-- room for the graph and the vertices in work memory
+abbrev pub WorkRoom : Size → List ℕ → Type 0
+WorkRoom z w = base z + 4 * z .vertices ≤ length w
+
+-- room in each part of memory
+pub record Room (z : Size) (m : Words) : Type 0 where
+  pub work : WorkRoom z (m .work)
 
 -- ---- the vertices
 
@@ -45,16 +58,25 @@ unfoldable pub verticesIn : ℕ → List ℕ → List Vertex
 verticesIn zero w = []
 verticesIn (suc n) w = vertexAt w 0 ∷ verticesIn n (drop 4 w)
 
-unfoldable pub verticesOf : Size → List ℕ → List Vertex
-verticesOf z w = verticesIn (z .vertices) (drop (base z) w)
+-- the vertices in memory
+unfoldable pub verticesOf : Size → Words → List Vertex
+verticesOf z m = verticesIn (z .vertices) (drop (base z) (m .work))
 
--- the words with these vertices, the rest unchanged
-unfoldable pub written : Size → List Vertex → List ℕ → List ℕ
-written z st w = take (base z) w ++ over (vertexWords st) (drop (base z) w)
+-- memory with these vertices, the rest unchanged
+unfoldable pub written : Size → List Vertex → Words → Words
+written z st m = record { work = take (base z) (m .work) ++ over (vertexWords st) (drop (base z) (m .work)) }
 
 -- the words with a vertex stored from o on
-unfoldable pub withVertex : List ℕ → ℕ → Vertex → List ℕ
-withVertex w o x = set (set (set (set w o (x .g)) (o + 1) (x .v)) (o + 2) (x .pred)) (o + 3) (markWord x)
+unfoldable pub wordsWith : List ℕ → ℕ → Vertex → List ℕ
+wordsWith w o x = set (set (set (set w o (x .g)) (o + 1) (x .v)) (o + 2) (x .pred)) (o + 3) (markWord x)
+
+-- memory with vertex p stored
+unfoldable pub withVertex : Size → Words → ℕ → Vertex → Words
+withVertex z m p x = record { work = wordsWith (m .work) (base z + 4 * p) x }
+
+-- the predecessor of x, also where x is no vertex: one word of work memory
+unfoldable pub predOf : Size → List ℕ → ℕ → ℕ
+predOf z w x = cond (ltb x (z .vertices)) (getD w (base z + 4 * x + 2) 0) noPred
 
 -- ---- the graph
 
@@ -99,10 +121,19 @@ pub record Fits (x : Vertex) : Type 0 where
   pub g : x .g ≤ maxG
   pub v : x .v ≤ maxG
 
--- the words are those of vertices and of a graph
-pub record Ready (z : Size) (w : List ℕ) : Type 0 where
-  pub room : Room z w
-  pub whole : written z (verticesOf z w) w ≡ w
+-- work memory holds a graph, whatever words the vertices have
+pub record Loaded (z : Size) (w : List ℕ) : Type 0 where
+  pub room : WorkRoom z w
   pub rise : (t : ℕ) → t < z .vertices → firstOf w t ≤ firstOf w (suc t)
   pub ends : (t : ℕ) → t < z .vertices → firstOf w (suc t) ≤ z .edges
   pub heads : (t j : ℕ) → j < z .edges → edgeAt z w t j .head < z .vertices
+
+-- memory holds vertices and a graph
+pub record Ready (z : Size) (m : Words) : Type 0 where
+  pub room : Room z m
+  pub graph : Loaded z (m .work)
+  pub whole : written z (verticesOf z m) m ≡ m
+
+-- what a function that writes vertices makes of memory: these vertices, and nothing else changed
+pub record Becomes (z : Size) (st : List Vertex) (m m′ : Words) : Type 0 where
+  pub words : m′ ≡ written z st m

@@ -1,13 +1,14 @@
 // The words of edges in work memory, read: the first edge of a vertex, and an edge.
 ghost use mathlib.Core.Path.{_≡_};
 ghost use Prim.Native.Nat.{_<_, _≤_};
-ghost use Rattle.workspace.specs.Layout.{Room, firstOf, edgeAt};
+ghost use lib.ListN.{length};
+ghost use Rattle.workspace.specs.Layout.{base, firstOf, edgeAt};
 use crate::Size;
 use graph::Edge;
 
 // The number of the first edge of vertex t; for t = V the count of edges.
 pub fn first_edge(work: &[u32], z: Size, t: u32) -> u32
-    requires { ⌜ Room z (now work) × (t ≤ z .vertices) ⌝ }
+    requires { ⌜ (base z ≤ length (now work)) × (t ≤ z .vertices) ⌝ }
     ensures { λ r. ⌜ r ≡ firstOf (now (work .entry)) t ⌝ }
 {
     work[t as usize]
@@ -15,7 +16,7 @@ pub fn first_edge(work: &[u32], z: Size, t: u32) -> u32
 
 // Edge j, of the tail t.
 pub fn edge(work: &[u32], z: Size, t: u32, j: u32) -> Edge
-    requires { ⌜ Room z (now work) × (j < z .edges) ⌝ }
+    requires { ⌜ (base z ≤ length (now work)) × (j < z .edges) ⌝ }
     ensures { λ r. ⌜ r ≡ edgeAt z (now (work .entry)) t j ⌝ }
 {
     let vertices = z.vertices;

@@ -5,7 +5,7 @@ ghost use Rattle.search.specs.Job.{origin, at, atFirst};
 ghost use Rattle.search.specs.Rounds.{reopened};
 ghost use mathlib.Core.List.{map};
 ghost use lib.ListN.{set};
-ghost use Rattle.workspace.specs.Layout.{Room, verticesOf, written, Ready};
+ghost use Rattle.workspace.specs.Layout.{mem, Room, verticesOf, Ready, Becomes};
 use crate::Size;
 use crate::vertex_words;
 use crate::words;
@@ -43,8 +43,8 @@ fn reopened(x: Vertex) -> Vertex
 
 // The vertices at first, over any words.
 pub fn at_first(work: &mut [u32], z: Size, start: u32)
-    requires { ⌜ Room z (now work) × (start < z .vertices) ⌝ }
-    ensures { λ _. ⌜ now (work .exit) ≡ written z (atFirst (z .vertices) start) (now (work .entry)) ⌝ }
+    requires { ⌜ Room z (mem (now work)) × (start < z .vertices) ⌝ }
+    ensures { λ _. ⌜ Becomes z (atFirst (z .vertices) start) (mem (now (work .entry))) (mem (now (work .exit))) ⌝ }
 {
     let vertices = z.vertices;
     let mut p: u32 = 0;
@@ -57,8 +57,8 @@ pub fn at_first(work: &mut [u32], z: Size, start: u32)
 
 // Vertex p at a round's beginning.
 fn reopen_one(work: &mut [u32], z: Size, p: u32)
-    requires { ⌜ Ready z (now work) × (p < z .vertices) ⌝ }
-    ensures { λ _. ⌜ now (work .exit) ≡ written z (set (verticesOf z (now (work .entry))) p (reopened (at (verticesOf z (now (work .entry))) p))) (now (work .entry)) ⌝ }
+    requires { ⌜ Ready z (mem (now work)) × (p < z .vertices) ⌝ }
+    ensures { λ _. ⌜ Becomes z (set (verticesOf z (mem (now (work .entry)))) p (reopened (at (verticesOf z (mem (now (work .entry)))) p))) (mem (now (work .entry))) (mem (now (work .exit))) ⌝ }
 {
     let x = vertex_words::load(work, z, p);
     vertex_words::store(work, z, p, reopened(x));
@@ -66,8 +66,8 @@ fn reopen_one(work: &mut [u32], z: Size, p: u32)
 
 // All vertices at a round's beginning.
 pub fn reopen(work: &mut [u32], z: Size)
-    requires { ⌜ Ready z (now work) ⌝ }
-    ensures { λ _. ⌜ now (work .exit) ≡ written z (map reopened (verticesOf z (now (work .entry)))) (now (work .entry)) ⌝ }
+    requires { ⌜ Ready z (mem (now work)) ⌝ }
+    ensures { λ _. ⌜ Becomes z (map reopened (verticesOf z (mem (now (work .entry))))) (mem (now (work .entry))) (mem (now (work .exit))) ⌝ }
 {
     let vertices = z.vertices;
     let mut s: u32 = 0;

@@ -1,8 +1,8 @@
 // The words of one vertex: marks as a sum, where they begin, and a vertex put over any words.
 ghost use mathlib.Core.Path.{_≡_};
 ghost use mathlib.Core.Bool.{cond};
-ghost use Prim.Native.Nat.{_<_, _≤_, _+_, _*_};
-ghost use Rattle.workspace.specs.Layout.{base, hasMark, Room, withVertex, Fits};
+ghost use Prim.Native.Nat.{_<_, _≤_};
+ghost use Rattle.workspace.specs.Layout.{base, hasMark, mem, Room, withVertex, Fits};
 use crate::Size;
 use search::Vertex;
 
@@ -32,8 +32,8 @@ pub fn base(z: Size) -> usize
 
 // Stores vertex p over any words.
 pub fn put(work: &mut [u32], z: Size, p: u32, x: Vertex)
-    requires { ⌜ Room z (now work) × (p < z .vertices) × Fits x ⌝ }
-    ensures { λ _. ⌜ now (work .exit) ≡ withVertex (now (work .entry)) (base z + 4 * p) x ⌝ }
+    requires { ⌜ Room z (mem (now work)) × (p < z .vertices) × Fits x ⌝ }
+    ensures { λ _. ⌜ mem (now (work .exit)) ≡ withVertex z (mem (now (work .entry))) p x ⌝ }
 {
     let o = base(z) + 4 * (p as usize);
     let marks = mark(1, x.inad) + mark(2, x.anchor) + mark(4, x.opened) + mark(8, x.incons);

@@ -22,13 +22,13 @@ returns c =
     (sym (cost-outside (s .z) (s .work .now) (s .a) (s .b) (c .if1 .taken)), none-most maxWord)
 
 first-edge-requires : tie.Need-first-edge-requires Inv-loop μ-loop
-first-edge-requires c κs = (c .before .before .pre .room, omega arith)
+first-edge-requires c κs = (omega (arith, c .before .before .pre .room), omega arith)
 
 add-first-edge : tie.Need-add-first-edge Inv-loop μ-loop
 add-first-edge c = search needs
 
 first-edge-requires-2 : tie.Need-first-edge-requires-2 Inv-loop μ-loop
-first-edge-requires-2 c κs = (c .before .before .before .pre .room, omega arith)
+first-edge-requires-2 c κs = (omega (arith, c .before .before .before .pre .room), omega arith)
 
 loop-holds : tie.Need-loop-holds Inv-loop μ-loop
 loop-holds c =
@@ -40,7 +40,7 @@ look-requires c κs =
     let s = c .before .before .before .before .before .before in
     let w = s .args .work .now in
     let a = s .args .a in
-    (s .pre .room, omega (arith, s .pre .ends a (omega arith), ap (firstOf w) (add-one a), c .before .before .first-edge2 .ensures), c .before .loop .inv .1)
+    (omega (arith, s .pre .room), omega (arith, s .pre .ends a (omega arith), ap (firstOf w) (add-one a), c .before .before .first-edge2 .ensures), c .before .loop .inv .1)
 
 add-j : tie.Need-add-j Inv-loop μ-loop
 add-j c = search needs

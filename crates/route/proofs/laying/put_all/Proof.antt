@@ -1,13 +1,13 @@
 -- `put_all` meets its contract.
 use native.Mathlib.Omega.{arith}
 use borrow.Author.Needs.{needs}
-use Rattle.workspace.specs.Layout.{verticesOf}
+use Rattle.workspace.specs.Layout.{predOf}
 use Rattle.route.proofs.Laid.{Laying, laying-none, laying-more, laying-all}
 use Rattle.route.proofs.laying.put_all.Statement.{statement}
 use Rattle.route.proofs.laying.put_all.Tie as tie
 
 abbrev Inv-loop : tie.InvT-loop
-Inv-loop work route₀ z goal n i₀ x₀ route i x = Laying (verticesOf z work) n goal route₀ route i x
+Inv-loop work route₀ z goal n i₀ x₀ route i x = Laying (predOf z work) n goal route₀ route i x
 
 abbrev μ-loop : tie.MeasureT-loop
 μ-loop work route₀ z goal n i₀ x₀ route i x = i
@@ -15,7 +15,7 @@ abbrev μ-loop : tie.MeasureT-loop
 loop-holds : tie.Need-loop-holds Inv-loop μ-loop
 loop-holds c =
     let s = c .before .before .args in
-    laying-none (verticesOf (s .z) (s .work .now)) (s .n) (s .goal) (s .route .now)
+    laying-none (predOf (s .z) (s .work .now)) (s .n) (s .goal) (s .route .now)
 
 sub-i : tie.Need-sub-i Inv-loop μ-loop
 sub-i c = search needs
@@ -30,7 +30,7 @@ loop-again : tie.Need-loop-again Inv-loop μ-loop
 loop-again c =
     let s = c .before .before .before .before .before .before .before .before in
     let l = c .before .before .before .before .before .loop in
-    laying-more (verticesOf (s .args .z) (s .args .work .now)) (s .args .n) (s .args .goal) (s .args .route .now) (l .route) (l .i) (l .x) (l .inv) _ _ (c .before .before .before .before .loop-test .taken) (s .pre .1) (c .before .before .put .ensures .1) (c .before .before .put .ensures .0)
+    laying-more (predOf (s .args .z) (s .args .work .now)) (s .args .n) (s .args .goal) (s .args .route .now) (l .route) (l .i) (l .x) (l .inv) _ _ (c .before .before .before .before .loop-test .taken) (s .pre .1) (c .before .before .put .ensures .1) (c .before .before .put .ensures .0)
 
 same-length : tie.Need-same-length Inv-loop μ-loop
 same-length c = c .before .loop .inv .long
@@ -39,7 +39,7 @@ returns : tie.Need-returns Inv-loop μ-loop
 returns c =
     let s = c .before .before .before .before in
     let l = c .before .loop in
-    laying-all (verticesOf (s .args .z) (s .args .work .now)) (s .args .n) (s .args .goal) (s .args .route .now) (l .route) (l .i) (l .x) (l .inv) (omega arith) (s .pre .1)
+    laying-all (predOf (s .args .z) (s .args .work .now)) (s .args .n) (s .args .goal) (s .args .route .now) (l .route) (l .i) (l .x) (l .inv) (omega arith) (s .pre .1)
 
 pub put-all-spec : {M : Type 1} → statement M
 put-all-spec =

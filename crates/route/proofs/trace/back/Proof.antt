@@ -6,8 +6,8 @@ use borrow.Author.Needs.{needs}
 use Rattle.route.proofs.trace.back.Statement.{statement}
 use Rattle.route.proofs.trace.back.Tie as tie
 
-pred-of-requires : tie.Need-pred-of-requires
-pred-of-requires c κs = search needs
+pred-requires : tie.Need-pred-requires
+pred-requires c κs = search needs
 
 edge-cost-requires : tie.Need-edge-cost-requires
 edge-cost-requires c κs = search needs
@@ -22,7 +22,7 @@ returns : tie.Need-returns
 returns c =
     let s = c .before .before .before .before in
     let e = c .before .edge-cost .ensures in
-    back-step (graphOf (s .args .z) (s .args .work .now)) _ (s .args .t) _ _ _ (c .before .before .pred-of .ensures) (e .0) (e .1) (c .plus .ensures) (s .pre .2)
+    back-step (graphOf (s .args .z) (s .args .work .now)) _ (s .args .t) _ _ _ (c .before .before .pred .ensures) (e .0) (e .1) (c .plus .ensures) (s .pre .2)
 
 pub back-spec : {M : Type 1} → statement M
-back-spec = tie.close (tie.spec pred-of-requires edge-cost-requires plus-requires add-t10 returns)
+back-spec = tie.close (tie.spec pred-requires edge-cost-requires plus-requires add-t10 returns)

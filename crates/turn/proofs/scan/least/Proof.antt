@@ -1,5 +1,6 @@
 -- `least` meets its contract: the best of the first s vertices, and of all.
 use Prim.Native.Nat.{_-_}
+use Rattle.workspace.specs.Layout.{mem}
 use Rattle.turn.specs.Lead.{bestOf}
 use Rattle.turn.proofs.Scanning.{Scanned, scanned-none, scanned-next, scanned-all}
 use borrow.Author.Needs.{needs}
@@ -7,7 +8,7 @@ use Rattle.turn.proofs.scan.least.Statement.{statement}
 use Rattle.turn.proofs.scan.least.Tie as tie
 
 abbrev Inv-loop : tie.InvT-loop
-Inv-loop work numbers z i w1 vertices lead₀ s₀ lead s = Scanned z work numbers i w1 s (bestOf lead)
+Inv-loop work numbers z i w1 vertices lead₀ s₀ lead s = Scanned z (mem work) numbers i w1 s (bestOf lead)
 
 abbrev μ-loop : tie.MeasureT-loop
 μ-loop work numbers z i w1 vertices lead₀ s₀ lead s = vertices - s

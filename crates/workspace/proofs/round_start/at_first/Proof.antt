@@ -4,7 +4,7 @@ use mathlib.Core.Path.{_≡_, refl, _∙_}
 use native.Mathlib.Omega.{arith}
 use lib.ListN.{length, replicate}
 use Rattle.search.specs.Job.{fresh}
-use Rattle.workspace.specs.Layout.{written}
+use Rattle.workspace.specs.Layout.{mem, written}
 use Rattle.workspace.proofs.Written.{written-none}
 use Rattle.workspace.proofs.RoundStart.{fits-fresh, fits-origin, fresh-more, fresh-all}
 use borrow.Author.Needs.{needs}
@@ -12,20 +12,20 @@ use Rattle.workspace.proofs.round_start.at_first.Statement.{statement}
 use Rattle.workspace.proofs.round_start.at_first.Tie as tie
 
 abbrev Inv-loop : tie.InvT-loop
-Inv-loop work₀ z start vertices p₀ work p = (p ≤ vertices) × (length work ≡ length work₀) × (work ≡ written z (replicate p fresh) work₀)
+Inv-loop work₀ z start vertices p₀ work p = (p ≤ vertices) × (length work ≡ length work₀) × (mem work ≡ written z (replicate p fresh) (mem work₀))
 
 abbrev μ-loop : tie.MeasureT-loop
 μ-loop work₀ z start vertices p₀ work p = vertices - p
 
 loop-holds : tie.Need-loop-holds Inv-loop μ-loop
-loop-holds c = (search needs, refl, written-none (c .before .args .z) (c .before .args .work .now) (c .before .pre .0))
+loop-holds c = (search needs, refl, written-none (c .before .args .z) (mem (c .before .args .work .now)) (c .before .pre .0))
 
 fresh-requires : tie.Need-fresh-requires Inv-loop μ-loop
 fresh-requires c κs = search needs
 
 put-requires : tie.Need-put-requires Inv-loop μ-loop
 put-requires c κs = (
-  omega (arith, c .before .before .before .loop .inv .1, c .before .before .before .before .before .pre .0),
+  record { work = omega (arith, c .before .before .before .loop .inv .1, c .before .before .before .before .before .pre .0 .work) },
   c .before .before .loop-test .taken,
   rw (c .fresh .ensures) fits-fresh,
 )
@@ -42,7 +42,7 @@ loop-again c =
     let l = c .before .before .before .before .before .before .loop in (
       search needs,
       c .before .before .put .kept .0 ∙ l .inv .1,
-      fresh-more (s .args .z) (s .args .work .now) (l .work) _ (l .p) (s .pre .0) (l .inv .2) (c .before .before .before .before .before .loop-test .taken)
+      fresh-more (s .args .z) (mem (s .args .work .now)) (mem (l .work)) _ (l .p) (s .pre .0) (l .inv .2) (c .before .before .before .before .before .loop-test .taken)
           (rw (c .before .before .before .fresh .ensures) at (c .before .before .put .ensures)),
     )
 
@@ -50,7 +50,7 @@ origin-requires : tie.Need-origin-requires Inv-loop μ-loop
 origin-requires c κs = search needs
 
 put-requires-2 : tie.Need-put-requires-2 Inv-loop μ-loop
-put-requires-2 c κs = (omega (arith, c .before .before .before .loop .inv .1, c .before .before .before .before .before .pre .0), omega (arith, c .before .before .before .before .before .pre .1), rw (c .origin .ensures) fits-origin)
+put-requires-2 c κs = (record { work = omega (arith, c .before .before .before .loop .inv .1, c .before .before .before .before .before .pre .0 .work) }, omega (arith, c .before .before .before .before .before .pre .1), rw (c .origin .ensures) fits-origin)
 
 same-length : tie.Need-same-length Inv-loop μ-loop
 same-length c = c .before .before .put2 .kept .0 ∙ c .before .before .before .before .before .before .loop .inv .1
@@ -60,7 +60,7 @@ returns c =
     let s = c .before .before .before .before .before .before .before .before in
     let l = c .before .before .before .before .before .before .loop in
     let e : l .p ≡ s .args .z .vertices = omega arith in
-    fresh-all (s .args .z) (s .args .work .now) (l .work) _ (l .p) (s .pre .0) (l .inv .2) (s .args .start) e (s .pre .1)
+    fresh-all (s .args .z) (mem (s .args .work .now)) (mem (l .work)) _ (l .p) (s .pre .0) (l .inv .2) (s .args .start) e (s .pre .1)
     (rw (c .before .before .before .origin .ensures) at (c .before .before .put2 .ensures))
 
 pub at-first-spec : {M : Type 1} → statement M

@@ -1,5 +1,6 @@
 -- `reopen` meets its contract.
 use Prim.Native.Nat.{_-_}
+use Rattle.workspace.specs.Layout.{mem}
 use Rattle.workspace.proofs.Written.{ready-kept, length-kept}
 use Rattle.workspace.proofs.RoundStart.{Reopening, reopening-none, reopening-more, reopening-all}
 use borrow.Author.Needs.{needs}
@@ -7,7 +8,7 @@ use Rattle.workspace.proofs.round_start.reopen.Statement.{statement}
 use Rattle.workspace.proofs.round_start.reopen.Tie as tie
 
 abbrev Inv-loop : tie.InvT-loop
-Inv-loop work₀ z vertices s₀ work s = Reopening z work₀ work s
+Inv-loop work₀ z vertices s₀ work s = Reopening z (mem work₀) (mem work) s
 
 abbrev μ-loop : tie.MeasureT-loop
 μ-loop work₀ z vertices s₀ work s = vertices - s
@@ -19,7 +20,7 @@ reopen-one-requires : tie.Need-reopen-one-requires Inv-loop μ-loop
 reopen-one-requires c κs =
     let s = c .before .before .before .before in
     let l = c .before .before .loop in
-    (ready-kept (s .args .z) (s .args .work .now) (l .work) (s .pre) (l .inv .kept), c .before .loop-test .taken)
+    (ready-kept (s .args .z) (mem (s .args .work .now)) (mem (l .work)) (s .pre) (l .inv .kept), c .before .loop-test .taken)
 
 add-s : tie.Need-add-s Inv-loop μ-loop
 add-s c = search needs
@@ -31,18 +32,18 @@ loop-again : tie.Need-loop-again Inv-loop μ-loop
 loop-again c =
     let s = c .before .before .before .before .before .before .before in
     let l = c .before .before .before .before .before .loop in
-    reopening-more (s .args .z) (s .args .work .now) (s .pre) (l .work) (l .s) (l .inv) _ (c .before .before .before .before .loop-test .taken) (c .before .before .reopen-one .ensures)
+    reopening-more (s .args .z) (mem (s .args .work .now)) (s .pre) (mem (l .work)) (l .s) (l .inv) _ (c .before .before .before .before .loop-test .taken) (c .before .before .reopen-one .ensures)
 
 same-length : tie.Need-same-length Inv-loop μ-loop
 same-length c =
     let s = c .before .before .before in
-    length-kept (s .args .z) (s .args .work .now) (c .before .loop .work) (s .pre) (c .before .loop .inv .kept)
+    length-kept (s .args .z) (mem (s .args .work .now)) (mem (c .before .loop .work)) (s .pre) (c .before .loop .inv .kept)
 
 returns : tie.Need-returns Inv-loop μ-loop
 returns c =
     let s = c .before .before .before in
     let l = c .before .loop in
-    reopening-all (s .args .z) (s .args .work .now) (s .pre) (l .work) (l .s) (l .inv) (c .loop-test .left)
+    reopening-all (s .args .z) (mem (s .args .work .now)) (s .pre) (mem (l .work)) (l .s) (l .inv) (c .loop-test .left)
 
 pub reopen-spec : {M : Type 1} → statement M
 reopen-spec =

@@ -2,7 +2,7 @@
 use Prim.Native.Nat.{_+_, _*_}
 use mathlib.Core.Path.{sym}
 use native.Mathlib.Omega.{arith}
-use Rattle.workspace.specs.Layout.{vertexAt}
+use Rattle.workspace.specs.Layout.{mem, vertexAt}
 use Rattle.workspace.proofs.Written.{at-verticesOf}
 use borrow.Author.Needs.{needs}
 use Rattle.workspace.proofs.vertex_words.load.Statement.{statement}
@@ -75,7 +75,7 @@ returns c =
     let s = b .before .before in
     let o = b .base .result + 4 * s .args .p in (
       rw (c .before .before .before .has-mark .ensures, c .before .before .has-mark2 .ensures, c .before .has-mark3 .ensures, c .has-mark4 .ensures, b .base .ensures)
-          (sym (at-verticesOf (s .args .z) (s .args .work .now) (s .args .p) (s .pre .1))),
+          (sym (at-verticesOf (s .args .z) (mem (s .args .work .now)) (s .args .p) (s .pre .1))),
       record { g = omega (arith, c .before .before .before .before .shared-slice-known5 .given o); v = omega (arith, c .before .before .before .before .shared-slice-known5 .given (o + 1)) },
     )
 

@@ -1,5 +1,6 @@
 -- `store` meets its contract.
 use mathlib.Core.Path.{_∙_}
+use Rattle.workspace.specs.Layout.{mem}
 use Rattle.workspace.proofs.Written.{stored}
 use borrow.Author.Needs.{needs}
 use Rattle.workspace.proofs.vertex_words.store.Statement.{statement}
@@ -14,7 +15,7 @@ same-length c = search needs
 returns : tie.Need-returns
 returns c =
     let s = c .before .before .before .before .before in
-    c .before .before .put .ensures ∙ stored (s .args .z) (s .args .work .now) (s .args .p) (s .args .x) (s .pre .0) (s .pre .1)
+    record { words = c .before .before .put .ensures ∙ stored (s .args .z) (mem (s .args .work .now)) (s .args .p) (s .args .x) (s .pre .0) (s .pre .1) }
 
 pub store-spec : {M : Type 1} → statement M
 store-spec = tie.close (tie.spec put-requires same-length returns)

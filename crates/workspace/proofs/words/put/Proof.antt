@@ -2,7 +2,7 @@
 use lib.ListN.{length-set}
 use native.Mathlib.Omega.{arith}
 use Rattle.search.specs.Outcome.{markWord}
-use Rattle.workspace.specs.Layout.{withVertex}
+use Rattle.workspace.specs.Layout.{wordsWith, withVertex}
 use borrow.Author.Needs.{needs}
 use Rattle.workspace.proofs.words.put.Statement.{statement}
 use Rattle.workspace.proofs.words.put.Tie as tie
@@ -80,7 +80,7 @@ same-length : tie.Need-same-length
 same-length c = search needs
 
 returns : tie.Need-returns
-unfolding withVertex markWord
+unfolding withVertex wordsWith markWord
 returns c = rw (c .before .before .before .mark .ensures .0, c .before .before .mark2 .ensures .0, c .before .mark3 .ensures .0, c .mark4 .ensures .0, c .before .before .before .before .base .ensures)
 
 pub put-spec : {M : Type 1} → statement M
