@@ -2,23 +2,23 @@
 use Prim.Native.Nat.{ℕ, _*_, _≤_, _<_}
 use native.Mathlib.Nat.{mul-le-mul-right}
 use native.Mathlib.Omega.{arith}
-use mathlib.Core.Path.{_≡_, ap, _∙_}
+use mathlib.Core.Path.{_≡_, sym, ap, _∙_}
 use mathlib.Core.List.{List, [], _∷_}
 use lib.ListN.{length}
 use Rattle.graph.specs.Limits.{maxVertices}
 use Rattle.graph.proofs.Within.{accepted-within}
-use Rattle.search.specs.Job.{State, factors, house}
-use Rattle.search.specs.Call.{Call, inForce, pairs, jobOf}
+use Rattle.search.specs.Job.{State, factors}
+use Rattle.search.specs.Call.{Memory, Call, scheduleOf, pairs, jobOf}
 use Rattle.search.specs.Admitted.{Admissible}
 use Rattle.search.proofs.Facts.{Valid, InRange}
 use Rattle.search.proofs.Admitted.{clear, admitted}
 use Rattle.workspace.specs.declared.Size.{Size}
 use Rattle.workspace.specs.Layout.{base, Room}
-use Rattle.planner.specs.declared.Query.{Query}
-use Rattle.planner.specs.Carried.{Asking, Carries}
+use Rattle.admission.specs.declared.Query.{Query}
+use Rattle.planner.specs.Carried.{Asking, wordsOf, Carries}
 use Rattle.search.specs.declared.Progress.{Progress}
 use Rattle.search.proofs.Words.{route-kept}
-use Rattle.planner.proofs.Jobs.{Accepted, accepts, job-size, job-edges, job-schedule}
+use Rattle.planner.proofs.Jobs.{Accepted, accepts, job-size, plan-edges, job-schedule}
 
 half : (ws : List ℕ) → 2 * length (pairs ws) ≤ length ws
 unfolding pairs
@@ -58,28 +58,36 @@ module _ (c : Call) (z : Size) (q : Query) (a : Asking c z q) where
   sheets-long i guides h e =
       omega (arith, ap length e, rows .guided, ap (λ (n : ℕ). c .count * n) same, ap (λ (n : ℕ). i * n) same, mul-le-mul-right (plan .v) h)
 
-  pub in-range : (r : ℕ) → r < q .rounds → InRange (factors (jobOf c) r .w1) (factors (jobOf c) r .w2)
-  in-range r h = valid .range r (omega (arith, a .rounds))
+  pub in-range : (r : ℕ) → r < length (jobOf c .schedule) → InRange (factors (jobOf c) r .w1) (factors (jobOf c) r .w2)
+  in-range r h = valid .range r h
 
   pub route-room : z .vertices ≤ length (c .memory .route)
   route-room = omega (arith, rows .route-room, same)
 
-  pub work-room : Room z (c .memory .work)
+  pub words-room : Room z (wordsOf (c .memory))
   unfolding base
-  work-room = omega (arith, rows .work-room, same, a .edges, ap length (job-edges c plan))
+  words-room = record { work = omega (arith, rows .work-room, same, a .edges, ap length (plan-edges c plan)) }
 
   -- at most 16 rounds, of two factors each
-  pub schedule-short : length (inForce house (c .schedule)) ≤ 32
+  pub schedule-short : length (scheduleOf c) ≤ 32
   schedule-short = omega (arith, rows .schedule .few, rows .schedule .two)
 
   pub rounds-few : length (jobOf c .schedule) ≤ 16
-  rounds-few = omega (arith, ap length (job-schedule c), half (inForce house (c .schedule)), schedule-short)
+  rounds-few = omega (arith, ap length (job-schedule c), half (scheduleOf c), schedule-short)
+
+  -- the rounds that the code counts
+  module _ (schedule : List ℕ) (d : schedule ≡ scheduleOf c) where
+    pub rounds-asks : length schedule ≤ 32
+    rounds-asks = omega (arith, ap length d, schedule-short)
+
+    pub rounds-are : (n : ℕ) → n ≡ length (pairs schedule) → n ≡ length (jobOf c .schedule)
+    rounds-are n e = e ∙ ap (λ (l : List ℕ). length (pairs l)) d ∙ sym (ap length (job-schedule c))
 
 -- route memory has V words
 pub route-long :
-    (c : Call) (z : Size) (q : Query) → Asking c z q → (s : State) (p : Progress) (work route : List ℕ) → Carries c z s p work route →
-    z .vertices ≤ length route
-route-long c z q a s p work route k =
+    (c : Call) (z : Size) (q : Query) → Asking c z q → (s : State) (p : Progress) (m : Memory) → Carries c z s p m →
+    z .vertices ≤ length (m .route)
+route-long c z q a s p m k =
     omega (
       arith,
       ap length (k .kept),

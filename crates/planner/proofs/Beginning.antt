@@ -12,21 +12,22 @@ use Rattle.search.specs.declared.Vertex.{Vertex}
 use Rattle.search.specs.declared.Progress.{Progress}
 use Rattle.search.specs.Job.{State, Job, guides, atFirst}
 use Rattle.search.specs.Rounds.{Stand, firstTurn, settle, settled, begin}
-use Rattle.search.specs.Call.{Call, jobOf}
+use Rattle.search.specs.Call.{Memory, Call, pairs, planEdges, jobOf}
 use Rattle.search.specs.Outcome.{routeAfter}
 use Rattle.search.proofs.Admitted.{admitted}
 use Rattle.search.proofs.Standing.{first-ok}
 use Rattle.workspace.specs.declared.Size.{Size}
-use Rattle.workspace.specs.Layout.{base, Room, written, graphWords}
+use Rattle.workspace.specs.Layout.{base, Words, Room, graphWords, Becomes}
 use Rattle.workspace.specs.Holds.{Holds, Rising}
 use Rattle.workspace.proofs.Holding.{accepted-rising, graph-room, holds-laid}
 use Rattle.progress.specs.Moved.{firstProgress}
-use Rattle.planner.specs.declared.Query.{Query}
+use Rattle.admission.specs.declared.Query.{Query}
 use Rattle.planner.specs.declared.Standing.{Standing}
-use Rattle.planner.specs.Carried.{Carries, Stands, Settling, Settles}
+use Rattle.planner.specs.Plan.{memoryOf}
+use Rattle.planner.specs.Carried.{wordsOf, Carries, Stands, Settling, Settles}
 use Rattle.planner.specs.Begun.{Called}
-use Rattle.planner.proofs.Jobs.{first-few, Accepted, accepts, job-size, job-edges, job-guides, job-start}
-use Rattle.planner.proofs.Asked.{start-in, work-room}
+use Rattle.planner.proofs.Jobs.{first-few, Accepted, accepts, job-size, plan-edges, job-guides, job-start}
+use Rattle.planner.proofs.Asked.{start-in, words-room, rounds-are}
 
 -- the state at first
 firstState : Job → State
@@ -41,8 +42,8 @@ first-count : (v s : ℕ) → length (atFirst v s) ≡ v
 unfolding atFirst
 first-count v s = rw (length-set, length-replicate)
 
-module _ (c : Call) (z : Size) (q : Query) (bytes anchor schedule : List ℕ) (at : ℕ) (work route : List ℕ)
-    (h : Called c z q bytes anchor schedule at work route) where
+module _ (c : Call) (z : Size) (q : Query) (bytes anchor schedule : List ℕ) (at : ℕ) (m : Memory)
+    (h : Called c z q bytes anchor schedule at m) where
   abbrev job : Job
   job = jobOf c
 
@@ -60,87 +61,91 @@ module _ (c : Call) (z : Size) (q : Query) (bytes anchor schedule : List ℕ) (a
       ∙ sym decode-is
       ∙ plan .plan
 
-  edges-are : edgesIn (edgesFrom (z .vertices) (z .edges) bytes (firstAt at)) ≡ job .edges
+  edges-are : edgesIn (edgesFrom (z .vertices) (z .edges) bytes (firstAt at)) ≡ planEdges c
   unfolding edgesIn
-  edges-are = ap edgesIn edges-read ∙ sym (job-edges c plan)
+  edges-are = ap edgesIn edges-read ∙ sym (plan-edges c plan)
 
   size-is : z .vertices ≡ plan .v
   size-is = h .asking .vertices ∙ job-size c plan
 
-  count-is : length (job .edges) ≡ z .edges
+  count-is : length (planEdges c) ≡ z .edges
   count-is = sym (h .asking .edges)
 
-  room : Room z work
-  room = rw (h .work-is) (work-room c z q (h .asking))
+  room : Room z (wordsOf m)
+  room = rw (h .words-are) (words-room c z q (h .asking))
 
-  pub load-asks : (sizes (edgesFrom (z .vertices) (z .edges) bytes (firstAt at)) ≡ Sizes (z .vertices) (z .edges)) × (base z ≤ length work)
+  pub load-asks : (sizes (edgesFrom (z .vertices) (z .edges) bytes (firstAt at)) ≡ Sizes (z .vertices) (z .edges)) × (base z ≤ length (m .work))
   unfolding sizes
   load-asks = (
-    ap sizes edges-read ∙ rw (sym size-is, sym (job-edges c plan), count-is) refl,
-    omega (arith, room),
+    ap sizes edges-read ∙ rw (sym size-is, sym (plan-edges c plan), count-is) refl,
+    omega (arith, room .work),
   )
 
   module _ (loaded : List ℕ)
-      (l : loaded ≡ over (graphWords (z .vertices) (edgesIn (edgesFrom (z .vertices) (z .edges) bytes (firstAt at)))) work) where
-    graph-laid : loaded ≡ over (graphWords (z .vertices) (job .edges)) work
-    graph-laid = l ∙ ap (λ (es : List Edge). over (graphWords (z .vertices) es) work) edges-are
+      (l : loaded ≡ over (graphWords (z .vertices) (edgesIn (edgesFrom (z .vertices) (z .edges) bytes (firstAt at)))) (m .work)) where
+    graph-laid : loaded ≡ over (graphWords (z .vertices) (planEdges c)) (m .work)
+    graph-laid = l ∙ ap (λ (es : List Edge). over (graphWords (z .vertices) es) (m .work)) edges-are
 
-    pub first-asks : Room z loaded × (q .start < z .vertices)
-    first-asks = (rw graph-laid (graph-room z (job .edges) work count-is room), start-in c z q (h .asking))
+    -- memory, the graph loaded
+    abbrev u : Words
+    u = wordsOf (memoryOf (m .route) [] loaded)
+
+    pub first-asks : Room z u × (q .start < z .vertices)
+    first-asks = (rw graph-laid (graph-room z (planEdges c) (wordsOf m) count-is room), start-in c z q (h .asking))
 
     -- memory and the record at first
-    module _ (laid : List ℕ) (p : Progress) (f : laid ≡ written z (atFirst (z .vertices) (q .start)) loaded) (g : p ≡ firstProgress (q .guides)) where
-      rises : Rising (z .vertices) 0 (job .edges)
-      rises = rw (size-is, job-edges c plan) (accepted-rising (c .bytes) (plan .v) (plan .es) (plan .plan))
+    module _ (m′ : Memory) (p : Progress) (f : Becomes z (atFirst (z .vertices) (q .start)) u (wordsOf m′)) (same : m′ .route ≡ m .route)
+        (g : p ≡ firstProgress (q .guides)) where
+      rises : Rising (z .vertices) 0 (planEdges c)
+      rises = rw (size-is, plan-edges c plan) (accepted-rising (c .bytes) (plan .v) (plan .es) (plan .plan))
 
       vertices-are : atFirst (z .vertices) (q .start) ≡ atFirst (job .size) (job .start)
       vertices-are = rw (h .asking .vertices, h .asking .start, job-start c) refl
 
-      words : Holds z (job .edges) (atFirst (job .size) (job .start)) (c .memory .work) laid
+      words : Holds z (planEdges c) (atFirst (job .size) (job .start)) (wordsOf (c .memory)) (wordsOf m′)
       words =
-          subst (λ (old : List ℕ). Holds z (job .edges) (atFirst (job .size) (job .start)) old laid) (h .work-is)
-          (holds-laid z (job .edges) (atFirst (job .size) (job .start)) work loaded laid room count-is rises
+          subst (λ (old : Words). Holds z (planEdges c) (atFirst (job .size) (job .start)) old (wordsOf m′)) (h .words-are)
+          (holds-laid z (planEdges c) (atFirst (job .size) (job .start)) (wordsOf m) u (wordsOf m′) room count-is rises
           (first-count (job .size) (job .start) ∙ sym (h .asking .vertices)) graph-laid
-          (f ∙ ap (λ (st : List Vertex). written z st loaded) vertices-are))
+          (subst (λ (st : List Vertex). Becomes z st u (wordsOf m′)) vertices-are f))
 
       progress-is : p ≡ firstState job .progress
       unfolding firstState firstProgress
       progress-is = g ∙ rw (h .asking .guides, job-guides c) refl
 
-      carries-first : Carries c z (firstState job) p laid route
+      carries-first : Carries c z (firstState job) p m′
       unfolding firstState routeAfter
       carries-first =
           record {
             ok = first-ok job (admitted c (h .asking .admitted));
             words = words;
-            kept = h .route-is;
+            kept = same ∙ h .route-is;
             progress = progress-is;
             turn = rw g (unfold firstProgress in (omega (arith, first-few (q .guides), h .asking .guides)));
           }
 
-      left-is : q .rounds ≡ length (job .schedule) - firstState job .progress .rounds
-      unfolding firstState
-      left-is = omega (arith, h .asking .rounds)
+      module _ (left : ℕ) (n : left ≡ length (pairs schedule)) where
+        left-is : left ≡ length (job .schedule) - firstState job .progress .rounds
+        unfolding firstState
+        left-is = omega (arith, rounds-are c z q (h .asking) schedule (h .schedule-is) left n)
 
-      pub settle-asks : Settling z q anchor schedule (q .rounds) p laid route
-      settle-asks =
-          record {
-            call = c;
-            state = firstState job;
-            asking = h .asking;
-            anchor-is = h .anchor-is;
-            schedule-is = h .schedule-is;
-            carries = carries-first;
-            left-is = left-is;
-          }
+        pub settle-asks : Settling z q anchor schedule left p m′
+        settle-asks =
+            record {
+              call = c;
+              state = firstState job;
+              asking = h .asking;
+              anchor-is = h .anchor-is;
+              schedule-is = h .schedule-is;
+              carries = carries-first;
+              left-is = left-is;
+            }
 
-      begin-is : settle job (q .rounds) (firstState job) ≡ begin job
-      begin-is =
-          ap (λ (n : ℕ). settle job n (firstState job)) left-is ∙ (unfold begin settled firstState in refl)
+        begin-is : settle job left (firstState job) ≡ begin job
+        begin-is =
+            ap (λ (x : ℕ). settle job x (firstState job)) left-is ∙ (unfold begin settled firstState in refl)
 
-      pub begins-there :
-          (r : Standing) (work′ route′ : List ℕ) → Settles z q anchor schedule (q .rounds) p laid route r work′ route′ →
-          Stands c z (begin job) r work′ route′
-      begins-there r work′ route′ s =
-          subst (λ (y : Stand). Stands c z y r work′ route′) begin-is
-          (s .settles c (firstState job) (h .asking) (h .anchor-is) (h .schedule-is) carries-first left-is)
+        pub begins-there : (r : Standing) (m″ : Memory) → Settles z q anchor schedule left p m′ r m″ → Stands c z (begin job) r m″
+        begins-there r m″ s =
+            subst (λ (y : Stand). Stands c z y r m″) begin-is
+            (s .settles c (firstState job) (h .asking) (h .anchor-is) (h .schedule-is) carries-first left-is)

@@ -1,54 +1,77 @@
 -- A round's end, as memory carries it: the kept route, the vertices, and the record.
-use Prim.Native.Nat.{ℕ, suc, _<_}
+use Prim.Native.Nat.{ℕ, suc, _-_, _≤_, _<_}
 use native.Mathlib.Omega.{arith}
-use mathlib.Core.Path.{_≡_, refl, sym, ap, _∙_}
+use mathlib.Core.Path.{_≡_, refl, sym, ap, _∙_, subst}
 use mathlib.Core.Bool.{Bool, true, false, cond}
 use mathlib.Core.List.{List, map}
 use lib.ListN.{length, length-map}
 use lib.Dec.{ltb}
+use borrow.Author.Tests.{lt-ltb, le-ltb}
 use Rattle.search.specs.declared.Vertex.{Vertex}
 use Rattle.search.specs.declared.Progress.{Progress}
 use Rattle.search.specs.declared.Step.the-variants.{Finished}
 use Rattle.search.specs.Job.{State, Job, guides}
 use Rattle.search.specs.Rounds.{ended, step, reopened, endRound}
-use Rattle.search.specs.Call.{Call, jobOf}
+use Rattle.search.specs.Call.{Memory, Call, planEdges, jobOf}
 use Rattle.search.specs.Outcome.{routeAfter}
+use Rattle.search.proofs.Tools.{le-cases}
 use Rattle.search.proofs.Admitted.{admitted}
 use Rattle.search.proofs.Standing.{Over, round-over}
+use Rattle.admission.specs.declared.Query.{Query}
 use Rattle.workspace.specs.declared.Size.{Size}
-use Rattle.workspace.specs.Layout.{verticesOf, graphOf, written}
+use Rattle.workspace.specs.Layout.{Words, verticesOf, graphOf, Becomes}
 use Rattle.workspace.specs.Holds.{Holds}
 use Rattle.workspace.proofs.Holding.{holds-vertices, holds-graph, holds-written}
 use Rattle.route.specs.Trace.{tracedIn, tracedCost}
 use Rattle.route.specs.Kept.{keptCost, keptRoute}
 use Rattle.route.proofs.Ended.{ends-cost, ends-route}
-use Rattle.planner.specs.declared.Query.{Query}
-use Rattle.planner.specs.Carried.{Asking, Carries}
-use Rattle.planner.proofs.Jobs.{first-few, job-guides, job-start, job-goal}
+use Rattle.planner.specs.Carried.{Asking, wordsOf, Carries}
+use Rattle.planner.proofs.Jobs.{first-few, job-guides, job-start, job-goal, job-edges}
 use Rattle.planner.proofs.Asked.{rounds-few}
 
-module _ (c : Call) (z : Size) (q : Query) (s : State) (p : Progress) (work route : List ℕ) (a : Asking c z q) (k : Carries c z s p work route)
-    (more : s .progress .rounds < length (jobOf c .schedule)) (fin : step (jobOf c) s ≡ Finished) where
+-- another round follows, if more than one was left
+next-left : (r n : ℕ) → ltb 1 (n - r) ≡ ltb (suc r) n
+next-left r n =
+    le-cases n (suc r)
+    (λ h. le-ltb 1 (n - r) (omega arith) ∙ sym (le-ltb (suc r) n h))
+    (λ h. lt-ltb 1 (n - r) (omega arith) ∙ sym (lt-ltb (suc r) n h))
+
+length-either : (t : Bool) (st : List Vertex) → length (cond t (map reopened st) st) ≡ length st
+length-either true st = length-map st reopened
+length-either false st = refl
+
+module _ (c : Call) (z : Size) (q : Query) (s : State) (left : ℕ) (p : Progress) (m : Memory) (a : Asking c z q) (k : Carries c z s p m)
+    (l : left ≡ length (jobOf c .schedule) - s .progress .rounds) (more : s .progress .rounds < length (jobOf c .schedule))
+    (fin : step (jobOf c) s ≡ Finished) where
   abbrev job : Job
   job = jobOf c
 
   done : Over job (admitted c (a .admitted)) s
   done = round-over job (admitted c (a .admitted)) s (k .ok) more fin
 
-  words-by :
-      (t : Bool) (work′ : List ℕ) → work′ ≡ cond t (written z (map reopened (verticesOf z work)) work) work →
-      Holds z (job .edges) (cond t (map reopened (s .vertices)) (s .vertices)) (c .memory .work) work′
-  words-by true work′ e =
-      holds-written z (job .edges) (s .vertices) (c .memory .work) work (k .words) (map reopened (s .vertices)) work′ (length-map (s .vertices) reopened ∙ k .words .vertices)
-      (e ∙ ap (λ (st : List Vertex). written z (map reopened st) work) (holds-vertices z (job .edges) (s .vertices) (c .memory .work) work (k .words)))
-  words-by false work′ e = rw e (k .words)
+  -- what memory is of the state
+  vertices-is : verticesOf z (wordsOf m) ≡ s .vertices
+  vertices-is = holds-vertices z (planEdges c) (s .vertices) (wordsOf (c .memory)) (wordsOf m) (k .words)
 
-  -- what work memory is of the state
-  vertices-is : verticesOf z work ≡ s .vertices
-  vertices-is = holds-vertices z (job .edges) (s .vertices) (c .memory .work) work (k .words)
+  graph-is : graphOf z (m .work) ≡ job .edges
+  graph-is = holds-graph z (planEdges c) (s .vertices) (wordsOf (c .memory)) (wordsOf m) (k .words) ∙ sym (job-edges c)
 
-  graph-is : graphOf z work ≡ job .edges
-  graph-is = holds-graph z (job .edges) (s .vertices) (c .memory .work) work (k .words)
+  -- whether another round follows
+  abbrev next : Bool
+  next = ltb (suc (s .progress .rounds)) (length (job .schedule))
+
+  next-is : ltb 1 left ≡ next
+  next-is = ap (ltb 1) l ∙ next-left (s .progress .rounds) (length (job .schedule))
+
+  words-end :
+      (w : Words) → Becomes z (cond (ltb 1 left) (map reopened (verticesOf z (wordsOf m))) (verticesOf z (wordsOf m))) (wordsOf m) w →
+      Holds z (planEdges c) (cond next (map reopened (s .vertices)) (s .vertices)) (wordsOf (c .memory)) w
+  words-end w b =
+      holds-written z (planEdges c) (s .vertices) (wordsOf (c .memory)) (wordsOf m) (k .words) (cond next (map reopened (s .vertices)) (s .vertices)) w
+      (length-either next (s .vertices) ∙ k .words .vertices)
+      (subst (λ (st : List Vertex). Becomes z st (wordsOf m) w)
+      (ap (λ (t : Bool). cond t (map reopened (verticesOf z (wordsOf m))) (verticesOf z (wordsOf m))) next-is
+      ∙ ap (λ (st : List Vertex). cond next (map reopened st) st) vertices-is) b)
 
   start-is : q .start ≡ job .start
   start-is = a .start ∙ sym (job-start c)
@@ -56,26 +79,26 @@ module _ (c : Call) (z : Size) (q : Query) (s : State) (p : Progress) (work rout
   goal-is : q .goal ≡ job .goal
   goal-is = a .goal ∙ sym (job-goal c)
 
-  -- the kept route's cost, route memory and work memory after it, and the record
+  -- the kept route's cost, memory after it, and the record
   pub carries-end :
-      (cost : ℕ) (work′ route′ : List ℕ) (p′ : Progress) → cost ≡ keptCost (tracedCost z work (q .start) (q .goal)) p →
-      route′ ≡ keptRoute (z .vertices) (tracedCost z work (q .start) (q .goal)) (tracedIn z work (q .start) (q .goal)) p route →
-      work′ ≡ cond (ltb (suc (p .rounds)) (q .rounds)) (written z (map reopened (verticesOf z work)) work) work →
-      p′ ≡ ended (q .guides) cost p → Carries c z (endRound job s) p′ work′ route′
-  carries-end cost work′ route′ p′ h r w m =
+      (cost : ℕ) (m′ : Memory) (p′ : Progress) → cost ≡ keptCost (tracedCost z (m .work) (q .start) (q .goal)) p →
+      m′ .route ≡ keptRoute (z .vertices) (tracedCost z (m .work) (q .start) (q .goal)) (tracedIn z (m .work) (q .start) (q .goal)) p (m .route) →
+      Becomes z (cond (ltb 1 left) (map reopened (verticesOf z (wordsOf m))) (verticesOf z (wordsOf m))) (wordsOf m) (wordsOf m′) →
+      p′ ≡ ended (q .guides) cost p → Carries c z (endRound job s) p′ m′
+  carries-end cost m′ p′ h r w e =
       let g : q .guides ≡ guides job = a .guides ∙ sym (job-guides c) in
       let h′ : cost ≡ endRound job s .progress .cost
-      = ends-cost z work job s (a .vertices) graph-is vertices-is cost
+      = ends-cost z (wordsOf m) job s (a .vertices) graph-is vertices-is cost
       (rw (sym start-is, sym goal-is, sym (k .progress)) h) in
-      let r′ : route′ ≡ routeAfter job (endRound job s) (c .memory .route)
-      = ends-route z work job s (a .vertices) graph-is vertices-is (c .memory .route) route route′ (done .walk .cost) (done .walk .is)
-      (λ l. k .ok .kept .route l .short) (k .kept) (rw (sym start-is, sym goal-is, sym (k .progress)) r) in
+      let r′ : m′ .route ≡ routeAfter job (endRound job s) (c .memory .route)
+      = ends-route z (wordsOf m) job s (a .vertices) graph-is vertices-is (c .memory .route) (m .route) (m′ .route) (done .walk .cost) (done .walk .is)
+      (λ i. k .ok .kept .route i .short) (k .kept) (rw (sym start-is, sym goal-is, sym (k .progress)) r) in
       record {
         ok = done .after;
-        words = unfold endRound in (words-by (ltb (suc (s .progress .rounds)) (length (job .schedule))) work′ (w ∙ rw (k .progress, a .rounds) refl));
+        words = unfold endRound in (words-end (wordsOf m′) w);
         kept = r′;
-        progress = m ∙ rw (h′, k .progress, g) (unfold endRound ended in refl);
-        turn = rw m (unfold ended in (omega (arith, first-few (q .guides), a .guides)));
+        progress = e ∙ rw (h′, k .progress, g) (unfold endRound ended in refl);
+        turn = rw e (unfold ended in (omega (arith, first-few (q .guides), a .guides)));
       }
 
   -- the record counts no further than the schedule

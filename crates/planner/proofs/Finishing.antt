@@ -16,9 +16,9 @@ use Rattle.search.specs.declared.Summary.{Summary}
 use Rattle.search.specs.declared.Answer.{Answer}
 use Rattle.search.specs.declared.Answer.the-variants.{Route, NoRoute, Unfinished}
 use Rattle.search.specs.Bounds.{maxFactor}
-use Rattle.search.specs.Job.{State, Job, factors, house, routeEnd}
+use Rattle.search.specs.Job.{State, Job, factors, routeEnd}
 use Rattle.search.specs.Rounds.{Stand}
-use Rattle.search.specs.Call.{Call, inForce, pairs, jobOf}
+use Rattle.search.specs.Call.{Memory, Call, scheduleOf, pairs, jobOf}
 use Rattle.search.specs.Outcome.{bound, summary, cutShort, answerAt, answerOf}
 use Rattle.search.proofs.Facts.{Valid, InRange}
 use Rattle.search.proofs.Admitted.{admitted}
@@ -27,7 +27,7 @@ use Rattle.search.proofs.Standing.{Says}
 use Rattle.workspace.specs.declared.Size.{Size}
 use Rattle.route.specs.Kept.{upToEnd}
 use Rattle.route.proofs.Counted.{walk-below, incumbent-length}
-use Rattle.planner.specs.declared.Query.{Query}
+use Rattle.admission.specs.declared.Query.{Query}
 use Rattle.planner.specs.declared.Standing.{Standing}
 use Rattle.planner.specs.Carried.{Asking, Carries}
 use Rattle.planner.specs.Finished.{factorsIn, summaryIn, cutIn, Figured, AtEnd}
@@ -37,7 +37,7 @@ use Rattle.planner.proofs.Asked.{in-range, route-long, small}
 -- ---- the figures, as the code makes them
 
 module _ (z : Size) (p : Progress) (schedule route : List ℕ) where
-  module _ (f : Factors) (e : f ≡ getD (pairs (inForce house schedule)) (p .rounds - 1) (record { w1 = 0; w2 = 0 })) where
+  module _ (f : Factors) (e : f ≡ getD (pairs schedule) (p .rounds - 1) (record { w1 = 0; w2 = 0 })) where
     last-is : f ≡ factorsIn schedule (p .rounds)
     unfolding factorsIn
     last-is = e
@@ -64,8 +64,8 @@ module _ (z : Size) (p : Progress) (schedule route : List ℕ) where
 
 -- ---- the figures, of the state in hand
 
-module _ (c : Call) (z : Size) (q : Query) (a : Asking c z q) (s : State) (p : Progress) (schedule work route : List ℕ) (d : schedule ≡ c .schedule)
-    (k : Carries c z s p work route) where
+module _ (c : Call) (z : Size) (q : Query) (a : Asking c z q) (s : State) (p : Progress) (schedule route : List ℕ) (m : Memory) (d : schedule ≡ scheduleOf c)
+    (o : route ≡ m .route) (k : Carries c z s p m) where
   abbrev job : Job
   job = jobOf c
 
@@ -79,12 +79,12 @@ module _ (c : Call) (z : Size) (q : Query) (a : Asking c z q) (s : State) (p : P
       let r : kept.Route job (s .incumbent) (s .progress .cost) = k .ok .kept .route some in
       ap (λ (n : ℕ). length (upToEnd (take n route))) (a .vertices)
       ∙ incumbent-length job s (c .memory .route) route some (r .short) (walk-below (job .edges) (job .size) (v .heads) (r .walk) (v .starts))
-      (omega (arith, a .vertices, small c z q a)) (k .kept)
+      (omega (arith, a .vertices, small c z q a)) (o ∙ k .kept)
 
   factors-are : factorsIn schedule (p .rounds) ≡ factors job (s .progress .rounds - 1)
   unfolding factorsIn
   factors-are =
-      ap (λ (l : List ℕ). getD (pairs (inForce house l)) (p .rounds - 1) (record { w1 = 0; w2 = 0 })) d
+      ap (λ (l : List ℕ). getD (pairs l) (p .rounds - 1) (record { w1 = 0; w2 = 0 })) d
       ∙ sym (job-factors c (p .rounds - 1))
       ∙ ap (λ (n : ℕ). factors job (n - 1)) rounds-is
 
@@ -93,19 +93,19 @@ module _ (c : Call) (z : Size) (q : Query) (a : Asking c z q) (s : State) (p : P
   summary-is some = rw (length-is (omega (arith, some, rounds-is)), factors-are, k .progress) refl
 
   in-hand : 0 < p .rounds → InRange (factors job (s .progress .rounds - 1) .w1) (factors job (s .progress .rounds - 1) .w2)
-  in-hand some = in-range c z q a (s .progress .rounds - 1) (omega (arith, some, rounds-is, a .rounds, k .ok .count))
+  in-hand some = in-range c z q a (s .progress .rounds - 1) (omega (arith, some, rounds-is, k .ok .count))
 
   pub figured : Figured z p schedule route
   figured =
       record {
-        room = route-long c z q a s p work route k;
+        room = omega (arith, route-long c z q a s p m k, ap length o);
         scheduled =
             omega (
               arith,
               rounds-is,
               k .ok .count,
               ap length (job-schedule c),
-              ap (λ (l : List ℕ). length (pairs (inForce house l))) d,
+              ap (λ (l : List ℕ). length (pairs l)) d,
             );
         w1 = λ some. omega (arith, ap (λ (f : Factors). f .w1) factors-are, in-hand some .high1);
         w2 = λ some. omega (arith, ap (λ (f : Factors). f .w2) factors-are, in-hand some .high2);
@@ -125,10 +125,11 @@ module _ (c : Call) (z : Size) (q : Query) (a : Asking c z q) (s : State) (p : P
 
 -- ---- the answer
 
-module _ (c : Call) (z : Size) (y : Stand) (s : Standing) (schedule work route : List ℕ) (h : AtEnd c z y s schedule work route) where
+module _ (c : Call) (z : Size) (y : Stand) (s : Standing) (schedule route : List ℕ) (m : Memory) (o : route ≡ m .route)
+    (h : AtEnd c z y s schedule m) where
   -- what was asked, as far as the answer goes
   query : Query
-  query = record { start = c .start; goal = c .goal; guides = c .count; rounds = length (jobOf c .schedule) }
+  query = record { start = c .start; goal = c .goal; guides = c .count; budget = c .budget }
 
   asks : Asking c z query
   unfolding query
@@ -140,11 +141,11 @@ module _ (c : Call) (z : Size) (y : Stand) (s : Standing) (schedule work route :
         start = refl;
         goal = refl;
         guides = refl;
-        rounds = refl;
+        budget = refl;
       }
 
   pub end-figured : Figured z (s .progress) schedule route
-  end-figured = figured c z query asks (y .state) (s .progress) schedule work route (h .schedule-is) (h .stands .carries)
+  end-figured = figured c z query asks (y .state) (s .progress) schedule route m (h .schedule-is) o (h .stands .carries)
 
   at-step : (t : Step) → s .step ≡ t → answerOf (jobOf c) y ≡ answerAt (jobOf c) t (y .state)
   unfolding answerOf
@@ -163,11 +164,11 @@ module _ (c : Call) (z : Size) (y : Stand) (s : Standing) (schedule work route :
   pub answers-route : (r : Summary) → s .step ≡ Finished → r ≡ summaryIn z (s .progress) schedule route → Route r ≡ answerOf (jobOf c) y
   unfolding answerAt
   answers-route r e f =
-      ap Route (f ∙ summary-is c z query asks (y .state) (s .progress) schedule work route (h .schedule-is) (h .stands .carries) (some-round e))
+      ap Route (f ∙ summary-is c z query asks (y .state) (s .progress) schedule route m (h .schedule-is) o (h .stands .carries) (some-round e))
       ∙ sym (at-step Finished e)
 
-  pub answers-cut : (r : Answer) (m a : ℕ) → s .step ≡ Due m a → r ≡ cutIn z (s .progress) schedule route → r ≡ answerOf (jobOf c) y
+  pub answers-cut : (r : Answer) (n a : ℕ) → s .step ≡ Due n a → r ≡ cutIn z (s .progress) schedule route → r ≡ answerOf (jobOf c) y
   unfolding answerAt
-  answers-cut r m a e f =
-      f ∙ cut-is c z query asks (y .state) (s .progress) schedule work route (h .schedule-is) (h .stands .carries)
-      ∙ sym (at-step (Due m a) e)
+  answers-cut r n a e f =
+      f ∙ cut-is c z query asks (y .state) (s .progress) schedule route m (h .schedule-is) o (h .stands .carries)
+      ∙ sym (at-step (Due n a) e)

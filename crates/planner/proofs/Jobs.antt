@@ -8,12 +8,12 @@ use lib.Dec.{eqb, ltb}
 use mir.Facts.{eqb-no, ltb-yes}
 use Rattle.graph.specs.declared.Edge.{Edge}
 use Rattle.graph.specs.Plan.{Decoded, accepted, refused, decode}
-use Rattle.graph.specs.Lists.{none, fault}
+use Rattle.graph.specs.Lists.{none, fault, edgesIn}
 use Rattle.search.specs.declared.Factors.{Factors}
-use Rattle.search.specs.Job.{guides, heuristic, factors, house}
+use Rattle.search.specs.Job.{cyclic, guides, heuristic, factors}
 use Rattle.search.specs.Rounds.{firstTurn, nextTurn}
 use Rattle.search.proofs.Tools.{cond-ind}
-use Rattle.search.specs.Call.{Call, inForce, pairs, tables, faultIn, faultOf, jobIn, jobFrom, jobOf}
+use Rattle.search.specs.Call.{Call, scheduleOf, pairs, tables, faultIn, faultOf, planEdges, jobIn, jobFrom, jobOf}
 
 -- whose turn it is, of n guides
 pub first-few : (n : ℕ) → firstTurn n ≤ n
@@ -44,14 +44,33 @@ module _ (c : Call) where
   unfolding jobOf
   job-goal = by-goal (decode (c .bytes))
 
-  by-schedule : (d : Decoded) → jobFrom c d .schedule ≡ pairs (inForce house (c .schedule))
+  by-schedule : (d : Decoded) → jobFrom c d .schedule ≡ pairs (scheduleOf c)
   unfolding jobFrom jobIn
   by-schedule (accepted v es) = refl
   by-schedule (refused n p) = refl
 
-  pub job-schedule : jobOf c .schedule ≡ pairs (inForce house (c .schedule))
+  pub job-schedule : jobOf c .schedule ≡ pairs (scheduleOf c)
   unfolding jobOf
   job-schedule = by-schedule (decode (c .bytes))
+
+  by-edges : (d : Decoded) → jobFrom c d .edges ≡ edgesIn d
+  unfolding jobFrom jobIn edgesIn
+  by-edges (accepted v es) = refl
+  by-edges (refused n p) = refl
+
+  -- the one law that ties the job's edges to the plan's
+  pub job-edges : jobOf c .edges ≡ planEdges c
+  unfolding jobOf planEdges
+  job-edges = by-edges (decode (c .bytes))
+
+  by-pick : (d : Decoded) → jobFrom c d .pick ≡ cyclic
+  unfolding jobFrom jobIn
+  by-pick (accepted v es) = refl
+  by-pick (refused n p) = refl
+
+  pub job-pick : jobOf c .pick ≡ cyclic
+  unfolding jobOf
+  job-pick = by-pick (decode (c .bytes))
 
   by-heuristics : (d : Decoded) → jobFrom c d .heuristics ≡ c .anchor ∷ tables (jobFrom c d .size) (c .count) (c .sheets)
   unfolding jobFrom jobIn
@@ -77,7 +96,7 @@ module _ (c : Call) where
       let a : length (jobOf c .heuristics) ≡ suc (c .count) = ap length job-heuristics ∙ ap suc (count-tables (jobOf c .size) (c .count) (c .sheets)) in
       omega arith
 
-  pub job-factors : (r : ℕ) → factors (jobOf c) r ≡ getD (pairs (inForce house (c .schedule))) r (record { w1 = 0; w2 = 0 })
+  pub job-factors : (r : ℕ) → factors (jobOf c) r ≡ getD (pairs (scheduleOf c)) r (record { w1 = 0; w2 = 0 })
   unfolding factors
   job-factors r = ap (λ (l : List Factors). getD l r (record { w1 = 0; w2 = 0 })) job-schedule
 
@@ -107,6 +126,6 @@ module _ (c : Call) (a : Accepted c) where
   unfolding jobOf jobFrom jobIn
   job-size = rw (a .plan)
 
-  pub job-edges : jobOf c .edges ≡ a .es
-  unfolding jobOf jobFrom jobIn
-  job-edges = rw (a .plan)
+  pub plan-edges : planEdges c ≡ a .es
+  unfolding planEdges edgesIn
+  plan-edges = rw (a .plan)

@@ -1,5 +1,6 @@
 pub mod Jobs
 pub mod Asked
+pub mod Carrying
 pub mod Ending
 pub mod Settling
 pub mod Logging

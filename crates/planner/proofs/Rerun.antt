@@ -10,10 +10,10 @@ use Rattle.search.specs.declared.Step.{Step}
 use Rattle.search.specs.declared.Step.the-variants.{Stuck, Finished, Due}
 use Rattle.search.specs.Job.{Job}
 use Rattle.search.specs.Rounds.{Stand, Moment, choice, begin, advance, run, moments}
-use Rattle.search.specs.Call.{jobOf}
-use Rattle.search.proofs.Runs.{Going-on, over, due, going-on, advance-over, run-due, run-over, moments-due, moments-over, moments-within, run-suc}
+use Rattle.search.specs.Call.{Memory, jobOf}
+use Rattle.search.proofs.Runs.{moments-within, run-suc, moments-suc, run-stays, moments-stay}
 use Rattle.workspace.specs.declared.Size.{Size}
-use Rattle.planner.specs.declared.Query.{Query}
+use Rattle.admission.specs.declared.Query.{Query}
 use Rattle.planner.specs.declared.Standing.{Standing}
 use Rattle.planner.specs.Reached.{Reaches, Advancing, Advances, Running, Runs}
 use Rattle.planner.specs.Going.{isDue}
@@ -22,24 +22,24 @@ use Rattle.planner.specs.Going.{isDue}
 
 -- the search stands where the turns made so far lead, `left` of the budget being left
 pub record Ran
-    (z : Size) (q : Query) (anchor guides schedule : List ℕ) (n : ℕ) (s : Standing) (work route log : List ℕ) (left : ℕ) (going : Bool) (r : Standing)
-    (work′ route′ log′ : List ℕ) : Type 0 where
+    (z : Size) (q : Query) (anchor guides schedule : List ℕ) (n : ℕ) (s : Standing) (m : Memory) (left : ℕ) (going : Bool) (r : Standing)
+    (m′ : Memory) : Type 0 where
   pub within : left ≤ n
   pub goes : going ≡ (isDue (r .step) && ltb 0 left)
-  pub to : Runs z q anchor guides schedule (n - left) s work route log r work′ route′ log′
+  pub to : Runs z q anchor guides schedule (n - left) s m r m′
 
 -- the loop's test
-module _ {z : Size} {q : Query} {anchor guides schedule : List ℕ} {n : ℕ} {s : Standing} {work route log : List ℕ} {left : ℕ} {going : Bool}
-    {r : Standing} {work′ route′ log′ : List ℕ} where
+module _ {z : Size} {q : Query} {anchor guides schedule : List ℕ} {n : ℕ} {s : Standing} {m : Memory} {left : ℕ} {going : Bool}
+    {r : Standing} {m′ : Memory} where
   pub ran-going :
-      going ≡ true → Ran z q anchor guides schedule n s work route log left going r work′ route′ log′ →
-      Ran z q anchor guides schedule n s work route log left true r work′ route′ log′
-  ran-going e k = subst (λ (b : Bool). Ran z q anchor guides schedule n s work route log left b r work′ route′ log′) e k
+      going ≡ true → Ran z q anchor guides schedule n s m left going r m′ →
+      Ran z q anchor guides schedule n s m left true r m′
+  ran-going e k = subst (λ (b : Bool). Ran z q anchor guides schedule n s m left b r m′) e k
 
   pub ran-stopped :
-      going ≡ false → Ran z q anchor guides schedule n s work route log left going r work′ route′ log′ →
-      Ran z q anchor guides schedule n s work route log left false r work′ route′ log′
-  ran-stopped e k = subst (λ (b : Bool). Ran z q anchor guides schedule n s work route log left b r work′ route′ log′) e k
+      going ≡ false → Ran z q anchor guides schedule n s m left going r m′ →
+      Ran z q anchor guides schedule n s m left false r m′
+  ran-stopped e k = subst (λ (b : Bool). Ran z q anchor guides schedule n s m left b r m′) e k
 
 due-both : (t : Step) (b : Bool) → (isDue t && b) ≡ true → b ≡ true
 due-both Stuck b h = absurd (let z : _≡_ {A = ℕ} 0 1 = cc in omega arith)
@@ -52,22 +52,22 @@ due-none Stuck left h l m a e = let z : _≡_ {A = ℕ} 0 1 = cc in omega arith
 due-none Finished left h l m a e = let z : _≡_ {A = ℕ} 0 1 = cc in omega arith
 due-none (Due k b) left h l m a e = let g : left ≤ 0 = ltb-false 0 left h in omega arith
 
-module _ (z : Size) (q : Query) (anchor guides schedule : List ℕ) (n : ℕ) (s : Standing) (work route log : List ℕ) where
-  pub ran-none : (going : Bool) → going ≡ (isDue (s .step) && ltb 0 n) → Ran z q anchor guides schedule n s work route log n going s work route log
+module _ (z : Size) (q : Query) (anchor guides schedule : List ℕ) (n : ℕ) (s : Standing) (m : Memory) where
+  pub ran-none : (going : Bool) → going ≡ (isDue (s .step) && ltb 0 n) → Ran z q anchor guides schedule n s m n going s m
   unfolding run moments
   ran-none going e =
       let d : n - n ≡ 0 = omega arith in
       record { within = omega arith; goes = e; to = rw d (record { runs = λ c a g k. k }) }
 
-  module _ (left : ℕ) (r : Standing) (work′ route′ log′ : List ℕ) where
-    module _ (k : Ran z q anchor guides schedule n s work route log left true r work′ route′ log′) where
+  module _ (left : ℕ) (r : Standing) (m′ : Memory) where
+    module _ (k : Ran z q anchor guides schedule n s m left true r m′) where
       pub left-some : 0 < left
       left-some = ltb-true 0 left (due-both (r .step) (ltb 0 left) (sym (k .goes)))
 
-      pub advancing : Running z q anchor guides schedule s work route log → n ≤ 4294967295 → Advancing z q anchor guides schedule r work′ route′ log′
+      pub advancing : Running z q anchor guides schedule s m → n ≤ 4294967295 → Advancing z q anchor guides schedule r m′
       advancing h few =
           let job : Job = jobOf (h .call) in
-          let y : Reaches (h .call) z (run job (n - left) (begin job)) (moments job (n - left) (begin job)) r work′ route′ log′
+          let y : Reaches (h .call) z (run job (n - left) (begin job)) (moments job (n - left) (begin job)) r m′
           = k .to .runs (h .call) (h .asking) (h .given) (h .reaches) in
           record {
             call = h .call;
@@ -80,9 +80,9 @@ module _ (z : Size) (q : Query) (anchor guides schedule : List ℕ) (n : ℕ) (s
           }
 
       pub ran-more :
-          (t : Standing) (work″ route″ log″ : List ℕ) (going : Bool) → Advances z q anchor guides schedule r work′ route′ log′ t work″ route″ log″ →
-          going ≡ (isDue (t .step) && ltb 0 (left - 1)) → Ran z q anchor guides schedule n s work route log (left - 1) going t work″ route″ log″
-      ran-more t work″ route″ log″ going v e =
+          (t : Standing) (m″ : Memory) (going : Bool) → Advances z q anchor guides schedule r m′ t m″ →
+          going ≡ (isDue (t .step) && ltb 0 (left - 1)) → Ran z q anchor guides schedule n s m (left - 1) going t m″
+      ran-more t m″ going v e =
           let d : n - (left - 1) ≡ suc (n - left) = omega (arith, left-some, k .within) in
           record {
             within = omega (arith, k .within);
@@ -99,17 +99,17 @@ module _ (z : Size) (q : Query) (anchor guides schedule : List ℕ) (n : ℕ) (s
           }
 
     -- the loop's end
-    pub ran-all : Ran z q anchor guides schedule n s work route log left false r work′ route′ log′ → Runs z q anchor guides schedule n s work route log r work′ route′ log′
+    pub ran-all : Ran z q anchor guides schedule n s m left false r m′ → Runs z q anchor guides schedule n s m r m′
     ran-all k = by left refl
       where
-        by : (x : ℕ) → left ≡ x → Runs z q anchor guides schedule n s work route log r work′ route′ log′
-        by zero e = let d : n - left ≡ n = omega arith in subst (λ (x : ℕ). Runs z q anchor guides schedule x s work route log r work′ route′ log′) d (k .to)
+        by : (x : ℕ) → left ≡ x → Runs z q anchor guides schedule n s m r m′
+        by zero e = let d : n - left ≡ n = omega arith in subst (λ (x : ℕ). Runs z q anchor guides schedule x s m r m′) d (k .to)
         by (suc x) e =
             record {
               runs =
                   λ c a g h.
                   let job : Job = jobOf c in
-                  let y : Reaches c z (run job (n - left) (begin job)) (moments job (n - left) (begin job)) r work′ route′ log′ = k .to .runs c a g h in
+                  let y : Reaches c z (run job (n - left) (begin job)) (moments job (n - left) (begin job)) r m′ = k .to .runs c a g h in
                   let f : (m b : ℕ) → run job (n - left) (begin job) .step ≡ Due m b → ⊥
                   = λ m b i. due-none (r .step) left (sym (k .goes)) (omega arith) m b (y .stands .step ∙ i) in
                   let d : left + (n - left) ≡ n = omega (arith, k .within) in

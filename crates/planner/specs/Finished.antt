@@ -12,9 +12,8 @@ use Rattle.search.specs.declared.Summary.{Summary}
 use Rattle.search.specs.declared.Answer.{Answer}
 use Rattle.search.specs.declared.Answer.the-variants.{Route, Unfinished}
 use Rattle.search.specs.Bounds.{maxFactor}
-use Rattle.search.specs.Job.{house}
 use Rattle.search.specs.Rounds.{Stand}
-use Rattle.search.specs.Call.{Call, inForce, pairs, faultOf, jobOf}
+use Rattle.search.specs.Call.{Memory, Call, scheduleOf, pairs, faultOf, jobOf}
 use Rattle.search.specs.Outcome.{answerOf}
 use Rattle.search.proofs.Standing.{Good}
 use Rattle.workspace.specs.declared.Size.{Size}
@@ -26,7 +25,7 @@ use Rattle.planner.specs.Carried.{Stands}
 
 -- the factors of finished round number r, counted from 1
 unfoldable pub factorsIn : List ℕ → ℕ → Factors
-factorsIn schedule r = getD (pairs (inForce house schedule)) (r - 1) (record { w1 = 0; w2 = 0 })
+factorsIn schedule r = getD (pairs schedule) (r - 1) (record { w1 = 0; w2 = 0 })
 
 unfoldable pub summaryIn : Size → Progress → List ℕ → List ℕ → Summary
 summaryIn z p schedule route =
@@ -45,27 +44,28 @@ cutIn z p schedule route = cond (eqb (p .rounds) 0) (Unfinished (p .expansions))
 -- what the figures ask, where a round is finished
 pub record Figured (z : Size) (p : Progress) (schedule route : List ℕ) : Type 0 where
   pub room : z .vertices ≤ length route
-  pub scheduled : p .rounds ≤ length (pairs (inForce house schedule))
+  pub scheduled : p .rounds ≤ length (pairs schedule)
   pub w1 : 0 < p .rounds → factorsIn schedule (p .rounds) .w1 ≤ maxFactor
   pub w2 : 0 < p .rounds → factorsIn schedule (p .rounds) .w2 ≤ maxFactor
 
 -- ---- the answer
 
 -- a call that is not refused, where its search stands at y
-pub record AtEnd (c : Call) (z : Size) (y : Stand) (s : Standing) (schedule work route : List ℕ) : Type 0 where
+pub record AtEnd (c : Call) (z : Size) (y : Stand) (s : Standing) (schedule : List ℕ) (m : Memory) : Type 0 where
   pub admitted : faultOf c ≡ none
   pub vertices : z .vertices ≡ jobOf c .size
-  pub schedule-is : schedule ≡ c .schedule
-  pub stands : Stands c z y s work route
+  pub schedule-is : schedule ≡ scheduleOf c
+  pub stands : Stands c z y s m
   pub good : Good (jobOf c) y
 
 -- what it asks
 pub record Finishing (z : Size) (s : Standing) (schedule route : List ℕ) : Type 0 where
   pub call : Call
   pub stand : Stand
-  pub work : List ℕ
-  pub at-end : AtEnd call z stand s schedule work route
+  pub memory : Memory
+  pub route-is : route ≡ memory .route
+  pub at-end : AtEnd call z stand s schedule memory
 
--- what it answers, whatever the call and the stand are
+-- what it answers, whatever the call, the stand and the rest of lent memory are
 pub record Finishes (z : Size) (s : Standing) (schedule route : List ℕ) (r : Answer) : Type 0 where
-  pub finishes : (c : Call) (y : Stand) (work : List ℕ) → AtEnd c z y s schedule work route → r ≡ answerOf (jobOf c) y
+  pub finishes : (c : Call) (y : Stand) (m : Memory) → route ≡ m .route → AtEnd c z y s schedule m → r ≡ answerOf (jobOf c) y

@@ -3,13 +3,17 @@ use Prim.Native.Nat.{ℕ}
 use mathlib.Core.Path.{_≡_}
 use mathlib.Core.List.{List}
 use Rattle.search.specs.declared.Answer.{Answer}
-use Rattle.search.specs.Call.{Call}
+use Rattle.search.specs.Call.{Memory, Call}
 use Rattle.search.specs.Outcome.{answer, memoryAfter}
-use Rattle.search.specs.Guarantee.{Guaranteed}
+use Rattle.search.specs.Guarantee.{Guaranteed, AnyRule}
+
+-- lent memory of these words
+abbrev pub memoryOf : List ℕ → List ℕ → List ℕ → Memory
+memoryOf route log work = record { route = route; log = log; work = work }
 
 -- the call with these arguments, where memory is lent as it is
-abbrev pub callOf : List ℕ → ℕ → ℕ → List ℕ → List ℕ → ℕ → List ℕ → ℕ → List ℕ → List ℕ → List ℕ → Call
-callOf bytes start goal anchor guides count schedule budget route log work =
+abbrev pub callOf : List ℕ → ℕ → ℕ → List ℕ → List ℕ → ℕ → List ℕ → ℕ → Memory → Call
+callOf bytes start goal anchor guides count schedule budget m =
     record {
       bytes = bytes;
       start = start;
@@ -19,14 +23,14 @@ callOf bytes start goal anchor guides count schedule budget route log work =
       count = count;
       schedule = schedule;
       budget = budget;
-      memory = record { route = route; log = log; work = work };
+      memory = m;
     }
 
--- r is answered, and this is what memory holds then
-pub record Planned (c : Call) (r : Answer) (route log work : List ℕ) : Type 0 where
+-- r is answered, and m is lent memory then
+pub record Planned (c : Call) (r : Answer) (m : Memory) : Type 0 where
   pub answers : r ≡ answer c
-  pub route-is : route ≡ memoryAfter c .route
-  pub log-is : log ≡ memoryAfter c .log
-  pub work-is : work ≡ memoryAfter c .work
+  pub memory-is : m ≡ memoryAfter c
   -- demand 3, and the refusals of demand 1
   pub promise : Guaranteed c
+  -- the guarantee, whichever rule says whose turn it is
+  pub any-rule : AnyRule c

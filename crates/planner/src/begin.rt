@@ -1,8 +1,10 @@
 // The search at first: the graph and the vertices at first in work memory, and what step 1 says of them.
+ghost use mathlib.Core.List.{[]};
+ghost use Rattle.planner.specs.Plan.{memoryOf};
 ghost use Rattle.planner.specs.Begun.{Beginning, Begins};
-use crate::Query;
 use crate::Standing;
 use crate::rounds;
+use admission::Query;
 use workspace::Size;
 use workspace::round_start;
 
@@ -18,11 +20,12 @@ pub fn begin(
     q: Query,
     at: usize,
 ) -> Standing
-    requires { ⌜ Beginning z q (now bytes) (now anchor) (now schedule) at (now work) (now route) ⌝ }
-    ensures { λ r. ⌜ Begins z q (now (bytes .entry)) (now (anchor .entry)) (now (schedule .entry)) at (now (work .entry)) (now (route .entry)) r (now (work .exit)) (now (route .exit)) ⌝ }
+    requires { ⌜ Beginning z q (now bytes) (now anchor) (now schedule) at (memoryOf (now route) [] (now work)) ⌝ }
+    ensures { λ r. ⌜ Begins z q (now (bytes .entry)) (now (anchor .entry)) (now (schedule .entry)) at (memoryOf (now (route .entry)) [] (now (work .entry))) r (memoryOf (now (route .exit)) [] (now (work .exit))) ⌝ }
 {
     loader::load_graph(bytes, work, z, at);
     round_start::at_first(work, z, q.start);
     let p = progress::at_first(q.guides);
-    rounds::settle(q.rounds, work, route, anchor, schedule, z, q, p)
+    let left = schedule::rounds(schedule);
+    rounds::settle(left, work, route, anchor, schedule, z, q, p)
 }

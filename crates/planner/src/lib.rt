@@ -1,28 +1,22 @@
 // The planner call: refused before anything is written, or the rounds over lent memory.
+pub mod advance;
 mod answers;
-mod begin;
-mod finish;
+pub mod begin;
+pub mod finish;
 mod rounds;
 mod running;
 
-ghost use Rattle.planner.specs.Plan.{callOf, Planned};
+ghost use Rattle.planner.specs.Plan.{memoryOf, callOf, Planned};
+use admission::Lengths;
+use admission::Query;
 use admission::Verdict;
 use search::Answer;
 use search::Progress;
 use search::Step;
 use workspace::Size;
 
-// What is asked besides the plan: the ends, the number of inadmissible heuristics (guides), and the number
-// of rounds in force.
-struct Query {
-    pub start: u32,
-    pub goal: u32,
-    pub guides: u32,
-    pub rounds: u32,
-}
-
 // Where the search stands between two turns: what step 1 said, and the record of the search in hand.
-struct Standing {
+pub struct Standing {
     pub step: Step,
     pub progress: Progress,
 }
@@ -43,41 +37,25 @@ pub fn plan(
     log: &mut [u32],
     work: &mut [u32],
 ) -> Answer
-    ensures { λ r. ⌜ Planned (callOf (now (bytes .entry)) start goal (now (anchor .entry)) (now (guides .entry)) «guide_count» (now (schedule .entry)) budget (now (route .entry)) (now (log .entry)) (now (work .entry))) r (now (route .exit)) (now (log .exit)) (now (work .exit)) ⌝ }
+    ensures { λ r. ⌜ Planned (callOf (now (bytes .entry)) start goal (now (anchor .entry)) (now (guides .entry)) «guide_count» (now (schedule .entry)) budget (memoryOf (now (route .entry)) (now (log .entry)) (now (work .entry)))) r (memoryOf (now (route .exit)) (now (log .exit)) (now (work .exit))) ⌝ }
 {
-    match admission::decide(
-        bytes,
+    let house = schedule::house();
+    let factors = schedule::in_force(schedule, &house);
+    let q = Query {
         start,
         goal,
-        anchor,
-        guides,
-        guide_count,
-        schedule,
-        route.len(),
-        work.len(),
-    ) {
+        guides: guide_count,
+        budget,
+    };
+    let lengths = Lengths {
+        route: route.len(),
+        work: work.len(),
+    };
+    match admission::decide(bytes, q, anchor, guides, factors, lengths) {
         Verdict::Refused(n, p) => Answer::Refused(n, p),
-        Verdict::Admitted(vertices, edges) => {
-            let rounds = schedule::rounds(schedule);
+        Verdict::Admitted(vertices, edges, at) => {
             let z = Size { vertices, edges };
-            let q = Query {
-                start,
-                goal,
-                guides: guide_count,
-                rounds,
-            };
-            answers::answer(
-                bytes,
-                anchor,
-                guides,
-                schedule,
-                budget,
-                z,
-                q,
-                route,
-                log,
-                work,
-            )
+            answers::answer(bytes, anchor, guides, factors, z, q, at, route, log, work)
         }
     }
 }

@@ -1,36 +1,42 @@
 // Rounds over lent memory: a round's end, and step 1 again and again while it finishes a round.
-ghost use mathlib.Core.Path.{_≡_};
 ghost use mathlib.Core.Bool.{cond};
-ghost use mathlib.Core.List.{map};
-ghost use Prim.Native.Nat.{suc};
+ghost use mathlib.Core.List.{[], map};
 ghost use lib.Dec.{ltb};
 ghost use Rattle.search.specs.Rounds.{reopened};
-ghost use Rattle.workspace.specs.Layout.{verticesOf, written, Ready};
+ghost use Rattle.workspace.specs.Layout.{mem, verticesOf, Ready, Becomes};
+ghost use Rattle.planner.specs.Plan.{memoryOf};
 ghost use Rattle.planner.specs.Carried.{RoundOver, RoundEnds, Settling, Settles};
-use crate::Query;
 use crate::Standing;
+use admission::Query;
 use search::Progress;
 use search::Step;
 use workspace::Size;
 use workspace::round_start;
 
-// A round begins after the one that is over, if there is one.
-fn reopen_next(work: &mut [u32], z: Size, over: u32, all: u32)
-    requires { ⌜ Ready z (now work) ⌝ }
-    ensures { λ _. ⌜ now (work .exit) ≡ cond (ltb (suc over) all) (written z (map reopened (verticesOf z (now (work .entry)))) (now (work .entry))) (now (work .entry)) ⌝ }
+// A round begins after the one that is over, if there is one: `left` rounds were not finished yet.
+fn reopen_next(work: &mut [u32], z: Size, left: u32)
+    requires { ⌜ Ready z (mem (now work)) ⌝ }
+    ensures { λ _. ⌜ Becomes z (cond (ltb 1 left) (map reopened (verticesOf z (mem (now (work .entry))))) (verticesOf z (mem (now (work .entry))))) (mem (now (work .entry))) (mem (now (work .exit))) ⌝ }
 {
-    if (over as u64) + 1 < all as u64 {
+    if 1 < left {
         round_start::reopen(work, z);
     }
 }
 
-// A round is finished, and the next begins if there is one.
-fn end_round(work: &mut [u32], route: &mut [u32], z: Size, q: Query, p: Progress) -> Progress
-    requires { ⌜ RoundOver z q p (now work) (now route) ⌝ }
-    ensures { λ r. ⌜ RoundEnds z q p (now (work .entry)) (now (route .entry)) r (now (work .exit)) (now (route .exit)) ⌝ }
+// A round is finished, one of `left`, and the next begins if there is one.
+fn end_round(
+    work: &mut [u32],
+    route: &mut [u32],
+    z: Size,
+    q: Query,
+    left: u32,
+    p: Progress,
+) -> Progress
+    requires { ⌜ RoundOver z q left p (memoryOf (now route) [] (now work)) ⌝ }
+    ensures { λ r. ⌜ RoundEnds z q left p (memoryOf (now (route .entry)) [] (now (work .entry))) r (memoryOf (now (route .exit)) [] (now (work .exit))) ⌝ }
 {
     let cost = route::keep(work, route, z, q.start, q.goal, p);
-    reopen_next(work, z, p.rounds, q.rounds);
+    reopen_next(work, z, left);
     progress::after_round(q.guides, cost, p)
 }
 
@@ -45,8 +51,8 @@ pub fn settle(
     q: Query,
     p: Progress,
 ) -> Standing
-    requires { ⌜ Settling z q (now anchor) (now schedule) left p (now work) (now route) ⌝ }
-    ensures { λ r. ⌜ Settles z q (now (anchor .entry)) (now (schedule .entry)) left p (now (work .entry)) (now (route .entry)) r (now (work .exit)) (now (route .exit)) ⌝ }
+    requires { ⌜ Settling z q (now anchor) (now schedule) left p (memoryOf (now route) [] (now work)) ⌝ }
+    ensures { λ r. ⌜ Settles z q (now (anchor .entry)) (now (schedule .entry)) left p (memoryOf (now (route .entry)) [] (now (work .entry))) r (memoryOf (now (route .exit)) [] (now (work .exit))) ⌝ }
 {
     if left == 0 {
         return Standing {
@@ -59,7 +65,7 @@ pub fn settle(
     match step {
         Step::Stuck => Standing { step, progress: p },
         Step::Finished => {
-            let ended = end_round(work, route, z, q, p);
+            let ended = end_round(work, route, z, q, left, p);
             settle(left - 1, work, route, anchor, schedule, z, q, ended)
         }
         Step::Due(_, _) => Standing { step, progress: p },

@@ -2,43 +2,14 @@
 ghost use mathlib.Core.Path.{_≡_};
 ghost use mathlib.Core.Bool.{_&&_};
 ghost use lib.Dec.{ltb};
-ghost use Rattle.planner.specs.Reached.{Advancing, Advances, Running, Runs};
+ghost use Rattle.planner.specs.Plan.{memoryOf};
+ghost use Rattle.planner.specs.Reached.{Running, Runs};
 ghost use Rattle.planner.specs.Going.{isDue};
-use crate::Query;
 use crate::Standing;
-use crate::rounds;
+use crate::advance;
+use admission::Query;
 use search::Step;
 use workspace::Size;
-
-// Where a turn is due, that turn, and step 1 after it.
-fn advance(
-    work: &mut [u32],
-    route: &mut [u32],
-    log: &mut [u32],
-    anchor: &[u32],
-    guides: &[u32],
-    schedule: &[u32],
-    z: Size,
-    q: Query,
-    s: Standing,
-) -> Standing
-    requires { ⌜ Advancing z q (now anchor) (now guides) (now schedule) s (now work) (now route) (now log) ⌝ }
-    ensures { λ r. ⌜ Advances z q (now (anchor .entry)) (now (guides .entry)) (now (schedule .entry)) s (now (work .entry)) (now (route .entry)) (now (log .entry)) r (now (work .exit)) (now (route .exit)) (now (log .exit)) ⌝ }
-{
-    let step = s.step;
-    let p = s.progress;
-    match step {
-        Step::Stuck => s,
-        Step::Finished => s,
-        Step::Due(m, a) => {
-            let f = schedule::factors(schedule, p.rounds);
-            turn::turn(work, log, guides, z, f, m, a, p.turn, p.expansions);
-            let next = progress::after_turn(q.guides, p);
-            let left = q.rounds - next.rounds;
-            rounds::settle(left, work, route, anchor, schedule, z, q, next)
-        }
-    }
-}
 
 // Whether a turn is due, and one is left.
 fn goes_on(s: Standing, left: u32) -> bool
@@ -62,17 +33,16 @@ pub fn run(
     schedule: &[u32],
     z: Size,
     q: Query,
-    budget: u32,
     s: Standing,
 ) -> Standing
-    requires { ⌜ Running z q (now anchor) (now guides) (now schedule) s (now work) (now route) (now log) ⌝ }
-    ensures { λ r. ⌜ Runs z q (now (anchor .entry)) (now (guides .entry)) (now (schedule .entry)) budget s (now (work .entry)) (now (route .entry)) (now (log .entry)) r (now (work .exit)) (now (route .exit)) (now (log .exit)) ⌝ }
+    requires { ⌜ Running z q (now anchor) (now guides) (now schedule) s (memoryOf (now route) (now log) (now work)) ⌝ }
+    ensures { λ r. ⌜ Runs z q (now (anchor .entry)) (now (guides .entry)) (now (schedule .entry)) (q .budget) s (memoryOf (now (route .entry)) (now (log .entry)) (now (work .entry))) r (memoryOf (now (route .exit)) (now (log .exit)) (now (work .exit))) ⌝ }
 {
     let mut stand = s;
-    let mut left = budget;
+    let mut left = q.budget;
     let mut going = goes_on(stand, left);
     while going {
-        stand = advance(work, route, log, anchor, guides, schedule, z, q, stand);
+        stand = advance::advance(work, route, log, anchor, guides, schedule, z, q, stand);
         left -= 1;
         going = goes_on(stand, left);
     }
