@@ -16,7 +16,7 @@ use Rattle.search.proofs.Moves.{length-relax, length-relaxAll}
 use Rattle.search.proofs.Tools.{cond-true, cond-false, same-cases}
 use Rattle.workspace.specs.declared.Size.{Size}
 use Rattle.workspace.specs.Layout.{Words, verticesOf, written, firstOf, edgeAt, edgesRun, edgesAt, edgesUnder, graphOf, Fits, Ready, Becomes}
-use Rattle.workspace.proofs.Written.{length-verticesOf, verticesOf-written, written-written, length-stored, ready-loaded, graphOf-written, ready-kept, length-kept, edge-kept, then-vertices, then-kept}
+use Rattle.workspace.proofs.Written.{length-verticesOf, verticesOf-written, written-written, length-stored, unchanged, ready-loaded, graphOf-written, ready-kept, length-kept, edge-kept, then-vertices, then-kept}
 
 -- ---- costs fit
 
@@ -43,7 +43,7 @@ module _ (z : Size) (s c : ℕ) (e : Edge) (m : Words) where
 
   pub relax-left : ltb (c + e .cost) (x .g) ≡ false → Ready z m → Becomes z (relax s c e (verticesOf z m)) m m
   unfolding relax
-  relax-left h r = rw h (record { words = sym (r .whole) })
+  relax-left h r = rw h (unchanged z m r)
 
 -- ---- all edges
 
@@ -107,7 +107,7 @@ pub record Tried (z : Size) (s c first e : ℕ) (m₀ m : Words) (j : ℕ) : Typ
 
 module _ (z : Size) (s c first e : ℕ) (m₀ : Words) (r : Ready z m₀) where
   pub tried-none : Tried z s c first e m₀ m₀ first
-  tried-none = record { kept = record { words = sym (r .whole) }; rest = refl }
+  tried-none = record { kept = unchanged z m₀ r; rest = refl }
 
   module _ (m : Words) (j : ℕ) (k : Tried z s c first e m₀ m j) where
     pub tried-ready : Ready z m

@@ -1,7 +1,7 @@
 -- Laws for the code that lays the first vertices and opens them again at a round's beginning.
-use mathlib.Core.Path.{_≡_, refl, sym, ap, _∙_}
+use mathlib.Core.Path.{_≡_, refl, ap, _∙_}
 use mathlib.Core.List.{List, _++_, map, append-nil}
-use Prim.Native.Nat.{ℕ, suc, _+_, _*_, _≤_, _<_}
+use Prim.Native.Nat.{ℕ, suc, _+_, _≤_, _<_}
 use native.Mathlib.Numerals.{add-one}
 use native.Mathlib.Omega.{arith}
 use lib.ListN.{length, getD, set, take, drop, drop-of-length-le, replicate, length-replicate}
@@ -11,7 +11,7 @@ use Rattle.search.specs.Job.{fresh, origin, at, atFirst, unreached}
 use Rattle.search.specs.Rounds.{reopened}
 use Rattle.workspace.specs.declared.Size.{Size}
 use Rattle.workspace.specs.Layout.{Words, Room, verticesOf, written, withVertex, Fits, Ready, Becomes}
-use Rattle.workspace.proofs.Written.{written-set, written-more, length-verticesOf, length-stored, then-vertices, then-kept}
+use Rattle.workspace.proofs.Written.{written-set, written-more, length-verticesOf, length-stored, unchanged, then-vertices, then-kept}
 
 pub fits-fresh : Fits fresh
 unfolding fresh unreached
@@ -64,7 +64,7 @@ pub record Reopening (z : Size) (m₀ m : Words) (p : ℕ) : Type 0 where
 
 module _ (z : Size) (m₀ : Words) (r : Ready z m₀) where
   pub reopening-none : Reopening z m₀ m₀ 0
-  reopening-none = record { within = omega arith; kept = record { words = sym (r .whole) }; opened = refl }
+  reopening-none = record { within = omega arith; kept = unchanged z m₀ r; opened = refl }
 
   module _ (m : Words) (p : ℕ) (k : Reopening z m₀ m p) where
     pub reopening-more :

@@ -109,6 +109,10 @@ module _ (z : Size) (m : Words) (room : Room z m) (r : Loaded z (m .work)) (st :
 
 -- ---- one change after another: m₀ before all of them, m after some
 
+-- none at all
+pub unchanged : (z : Size) (m : Words) → Ready z m → Becomes z (verticesOf z m) m m
+unchanged z m r = record { words = sym (r .whole) }
+
 module _ (z : Size) (m₀ m : Words) (r : Ready z m₀) (k : Becomes z (verticesOf z m) m₀ m) where
   work-is : m .work ≡ written z (verticesOf z m) m₀ .work
   work-is = ap (λ (x : Words). x .work) (k .words)
