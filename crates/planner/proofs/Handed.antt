@@ -21,7 +21,7 @@ use Rattle.workspace.specs.declared.Size.{Size}
 use Rattle.admission.specs.declared.Query.{Query}
 use Rattle.admission.specs.declared.Verdict.{Verdict}
 use Rattle.admission.specs.declared.Verdict.the-variants.{Admitted, Refused}
-use Rattle.admission.specs.Admission.{verdictOf}
+use Rattle.admission.specs.Admission.{verdictOf, Asks}
 use Rattle.admission.proofs.Admits.{Admits, admits, refuses}
 use Rattle.planner.specs.declared.Standing.{Standing}
 use Rattle.planner.specs.Plan.{memoryOf, Planned}
@@ -94,6 +94,24 @@ unfolding scheduleOf
 picked c schedule usual e u = e ∙ ap (λ (x : List ℕ). inForce x (c .schedule)) u
 
 module _ (c : Call) where
+  -- what is asked of the call, as it stands
+  pub asks-here :
+      (schedule : List ℕ) → schedule ≡ scheduleOf c →
+      Asks c (c .bytes) (record { start = c .start; goal = c .goal; guides = c .count; budget = c .budget }) (c .anchor) (c .sheets) schedule
+      (record { route = length (c .memory .route); work = length (c .memory .work) })
+  asks-here schedule s =
+      record {
+        bytes-is = refl;
+        start-is = refl;
+        goal-is = refl;
+        anchor-is = refl;
+        sheets-is = refl;
+        count-is = refl;
+        schedule-is = sym s;
+        route-is = refl;
+        work-is = refl;
+      }
+
   pub planned-refused : (n p : ℕ) → verdictOf c ≡ Refused n p → Planned c (answers.Refused n p) (c .memory)
   unfolding answer answerIn memoryAfter memoryIn
   planned-refused n p e =

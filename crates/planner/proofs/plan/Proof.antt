@@ -1,10 +1,19 @@
 -- `plan` meets its contract: refused as it must be, or answered as defined, with the guarantee.
 use mathlib.Core.Path.{refl, sym, _∙_}
-use Rattle.planner.specs.Plan.{callOf}
-use Rattle.planner.proofs.Handed.{planned-refused, asked, short, lent-is, lent-here, planned}
+use Rattle.planner.specs.Plan.{memoryOf, callOf}
+use Rattle.planner.proofs.Handed.{picked, asks-here, planned-refused, lent-is, lent-here, planned}
 use borrow.Author.Needs.{needs}
 use Rattle.planner.proofs.plan.Statement.{statement}
 use Rattle.planner.proofs.plan.Tie as tie
+
+house-requires : tie.Need-house-requires
+house-requires c κs = search needs
+
+slice-aggregate-in-force : tie.Need-slice-aggregate-in-force
+slice-aggregate-in-force c = search needs
+
+in-force-requires : tie.Need-in-force-requires
+in-force-requires c κs = search needs
 
 decide-requires : tie.Need-decide-requires
 decide-requires c κs = search needs
@@ -15,23 +24,21 @@ enum-known-n c = search needs
 enum-known-vertices : tie.Need-enum-known-vertices
 enum-known-vertices c = search needs
 
-rounds-requires : tie.Need-rounds-requires
-rounds-requires c κs =
-    let k = c .before .before .before in
-    let a = k .before .before .before .before .before .before .before .before .args in
-    let d = callOf (a .bytes .now) (a .start) (a .goal) (a .anchor .now) (a .guides .now) (a .guide-count) (a .schedule .now) (a .budget) (a .route .now) (a .log .now) (a .work .now) in
-    short d _ _ _ (k .decide .ensures .decided (a .budget) (d .memory) refl refl) (c .before .vertices .given .1)
-
 answer-requires : tie.Need-answer-requires
 answer-requires c κs =
-    let k = c .before .before .before .before .before .before .before in
-    let a = k .before .before .before .before .before .before .before .before .args in
-    let d = callOf (a .bytes .now) (a .start) (a .goal) (a .anchor .now) (a .guides .now) (a .guide-count) (a .schedule .now) (a .budget) (a .route .now) (a .log .now) (a .work .now) in
-    lent-here d (asked d _ _ _ _ (k .decide .ensures .decided (a .budget) (d .memory) refl refl) (c .before .before .before .before .before .vertices .given .1) (c .before .before .before .rounds .ensures))
+    let k = c .before .before .before .before .before .before in
+    let a = k .before .before .before .before .before .before .before .before .before .before .before .args in
+    let d = callOf (a .bytes .now) (a .start) (a .goal) (a .anchor .now) (a .guides .now) (a .guide-count) (a .schedule .now) (a .budget) (memoryOf (a .route .now) (a .log .now) (a .work .now)) in
+    let s = picked d _ _ (k .before .in-force .ensures) (k .before .before .before .house .ensures) in
+    lent-here d _ s _ _ _ _ (k .decide .ensures .decided d (asks-here d _ s)) (c .before .before .before .before .vertices .given .1)
 
 returns : tie.Need-returns
 returns c =
-    planned-refused _ _ _ (sym (c .before .before .before .decide .ensures .decided _ _ refl refl) ∙ c .before .n .given .1)
+    let k = c .before .before .before in
+    let a = k .before .before .before .before .before .before .before .before .before .before .before .args in
+    let d = callOf (a .bytes .now) (a .start) (a .goal) (a .anchor .now) (a .guides .now) (a .guide-count) (a .schedule .now) (a .budget) (memoryOf (a .route .now) (a .log .now) (a .work .now)) in
+    let s = picked d _ _ (k .before .in-force .ensures) (k .before .before .before .house .ensures) in
+    planned-refused d _ _ (sym (k .decide .ensures .decided d (asks-here d _ s)) ∙ c .before .n .given .1)
 
 same-length : tie.Need-same-length
 same-length c = search needs
@@ -45,20 +52,22 @@ same-length-3 c = search needs
 returns-2 : tie.Need-returns-2
 returns-2 c =
     let f = c .before .before .before .before .before .before in
-    let k = f .before .before .before .before .before .before .before .before in
-    let a = k .before .before .before .before .before .before .before .before .args in
-    let d = callOf (a .bytes .now) (a .start) (a .goal) (a .anchor .now) (a .guides .now) (a .guide-count) (a .schedule .now) (a .budget) (a .route .now) (a .log .now) (a .work .now) in
-    let l = lent-is d (asked d _ _ _ _ (k .decide .ensures .decided (a .budget) (d .memory) refl refl) (f .before .before .before .before .before .before .vertices .given .1) (f .before .before .before .before .rounds .ensures)) in
-    planned d _ _ _ _ (f .answer .ensures .answered d l refl)
+    let k = f .before .before .before .before .before .before .before in
+    let a = k .before .before .before .before .before .before .before .before .before .before .before .args in
+    let d = callOf (a .bytes .now) (a .start) (a .goal) (a .anchor .now) (a .guides .now) (a .guide-count) (a .schedule .now) (a .budget) (memoryOf (a .route .now) (a .log .now) (a .work .now)) in
+    let s = picked d _ _ (k .before .in-force .ensures) (k .before .before .before .house .ensures) in
+    planned d _ _ (f .answer .ensures .answered d (lent-is d _ s _ _ _ _ (k .decide .ensures .decided d (asks-here d _ s)) (f .before .before .before .before .before .vertices .given .1)))
 
 pub plan-spec : {M : Type 1} → statement M
 plan-spec =
     tie.close
     (tie.spec
+    house-requires
+    slice-aggregate-in-force
+    in-force-requires
     decide-requires
     enum-known-n
     enum-known-vertices
-    rounds-requires
     answer-requires
     returns
     same-length

@@ -12,24 +12,24 @@ enum-told-2 c = search needs
 
 summary-requires : tie.Need-summary-requires
 summary-requires c κs =
-    let h = c .before .before .before .before .before .pre in (end-figured _ _ _ _ _ _ _ (h .at-end), some-round _ _ _ _ _ _ _ (h .at-end) (c .enum-told2 .given .1))
+    let h = c .before .before .before .before .before .pre in (end-figured _ _ _ _ _ _ _ (h .route-is) (h .at-end), some-round _ _ _ _ _ _ _ (h .route-is) (h .at-end) (c .enum-told2 .given .1))
 
 enum-told-3 : tie.Need-enum-told-3
 enum-told-3 c = search needs
 
 cut-short-requires : tie.Need-cut-short-requires
-cut-short-requires c κs = let h = c .before .before .before .before .before .pre in end-figured _ _ _ _ _ _ _ (h .at-end)
+cut-short-requires c κs = let h = c .before .before .before .before .before .pre in end-figured _ _ _ _ _ _ _ (h .route-is) (h .at-end)
 
 returns : tie.Need-returns
-returns c = record { finishes = λ d y w h. answers-none d _ y _ _ w _ h (c .enum-told .given .1) }
+returns c = record { finishes = λ d y m o h. answers-none d _ y _ _ _ m o h (c .enum-told .given .1) }
 
 returns-2 : tie.Need-returns-2
 returns-2 c =
-    record { finishes = λ d y w h. answers-route d _ y _ _ w _ h _ (c .before .enum-told2 .given .1) (c .summary .ensures) }
+    record { finishes = λ d y m o h. answers-route d _ y _ _ _ m o h _ (c .before .enum-told2 .given .1) (c .summary .ensures) }
 
 returns-3 : tie.Need-returns-3
 returns-3 c =
-    record { finishes = λ d y w h. answers-cut d _ y _ _ w _ h _ _ _ (c .before .enum-told3 .given .1) (c .cut-short .ensures) }
+    record { finishes = λ d y m o h. answers-cut d _ y _ _ _ m o h _ _ _ (c .before .enum-told3 .given .1) (c .cut-short .ensures) }
 
 pub finish-spec : {M : Type 1} → statement M
 finish-spec =

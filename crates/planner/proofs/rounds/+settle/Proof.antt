@@ -29,13 +29,13 @@ known t =
     (factors-reads.Asked, factors-reads.Learnt, step-one-reads.Asked, step-one-reads.Learnt, end-round-reads.Asked, end-round-reads.Learnt, settle-below t, settle.Post)
 
 settle-returns : (t : ℕ) → settle-lts.Need-returns (known t) (settle-at t) settle.Post
-settle-returns t c = settles-none _ _ _ _ _ _ _ _ (c .if1 .taken)
+settle-returns t c = settles-none _ _ _ _ _ _ _ (c .if1 .taken)
 
 settle-factors-requires : (t : ℕ) → settle-lts.Need-factors-requires (known t) (settle-at t) settle.Post
-settle-factors-requires t c κs = round-in _ _ _ _ _ _ _ _ (c .before .before .before .before .before .pre .1) (c .if1 .left)
+settle-factors-requires t c κs = round-in _ _ _ _ _ _ _ (c .before .before .before .before .before .pre .1) (c .if1 .left)
 
 settle-step-one-requires : (t : ℕ) → settle-lts.Need-step-one-requires (known t) (settle-at t) settle.Post
-settle-step-one-requires t c κs = step-asks _ _ _ _ _ _ _ _ (c .before .before .before .before .before .before .before .pre .1) (c .before .before .if1 .left) _ (c .before .factors .ensures)
+settle-step-one-requires t c κs = step-asks _ _ _ _ _ _ _ (c .before .before .before .before .before .before .before .pre .1) (c .before .before .if1 .left) _ (c .before .factors .ensures)
 
 settle-enum-told : (t : ℕ) → settle-lts.Need-enum-told (known t) (settle-at t) settle.Post
 settle-enum-told t c = search needs
@@ -47,7 +47,7 @@ settle-end-round-requires : (t : ℕ) → settle-lts.Need-end-round-requires (kn
 settle-end-round-requires t c κs =
     let s = c .before .before .before .before in
     let r = s .before .before .before in
-    round-over _ _ _ _ _ _ _ _ (r .before .before .before .before .before .pre .1) (r .if1 .left) _ _ (s .before .before .factors .ensures) (s .step-one .ensures .0) (c .before .before .enum-told2 .given .1)
+    round-over _ _ _ _ _ _ _ (r .before .before .before .before .before .pre .1) (r .if1 .left) _ _ (s .before .before .factors .ensures) (s .step-one .ensures .0) (c .before .before .enum-told2 .given .1)
 
 settle-sub-settle : (t : ℕ) → settle-lts.Need-sub-settle (known t) (settle-at t) settle.Post
 settle-sub-settle t c =
@@ -61,7 +61,7 @@ settle-settle-requires t c κs =
     let r = s .before .before .before in
     let h = r .before .before .before .before .before .pre in (
       omega (arith, r .if1, h .0),
-      settling-on _ _ _ _ _ _ _ _ (h .1) (r .if1 .left) _ _ (s .before .before .factors .ensures) (s .step-one .ensures .0) (e .before .before .before .enum-told2 .given .1) _ _ _ (e .end-round .ensures),
+      settling-on _ _ _ _ _ _ _ (h .1) (r .if1 .left) _ _ (s .before .before .factors .ensures) (s .step-one .ensures .0) (e .before .before .before .enum-told2 .given .1) _ _ (e .end-round .ensures),
     )
 
 settle-enum-told-3 : (t : ℕ) → settle-lts.Need-enum-told-3 (known t) (settle-at t) settle.Post
@@ -73,7 +73,7 @@ settle-same-length t c = search needs
 settle-returns-2 : (t : ℕ) → settle-lts.Need-returns-2 (known t) (settle-at t) settle.Post
 settle-returns-2 t c =
     let e = c .before .before .step-one .ensures in
-    settles-stop _ _ _ _ _ _ _ _ (c .before .before .before .before .before .if1 .left) _ _ (c .before .before .before .before .factors .ensures) (e .0) (e .1) (λ f. stuck-not (sym (c .enum-told .given .1) ∙ f))
+    settles-stop _ _ _ _ _ _ _ (c .before .before .before .before .before .if1 .left) _ _ (c .before .before .before .before .factors .ensures) (e .0) (e .1) (λ f. stuck-not (sym (c .enum-told .given .1) ∙ f))
 
 settle-same-length-2 : (t : ℕ) → settle-lts.Need-same-length-2 (known t) (settle-at t) settle.Post
 settle-same-length-2 t c = search needs
@@ -86,7 +86,7 @@ settle-returns-3 t c =
     let l = c .before .before .before .before in
     let e = l .before .before .before .before .before .before .before in
     let s = e .before .before .before .before .before in
-    settles-on _ _ _ _ _ _ _ _ (s .before .before .before .if1 .left) _ _ (s .before .before .factors .ensures) (s .step-one .ensures .0) _ _ _ _ _ _ (e .before .before .before .enum-told2 .given .1) (e .end-round .ensures) (l .settle .ensures)
+    settles-on _ _ _ _ _ _ _ (s .before .before .before .if1 .left) _ _ (s .before .before .factors .ensures) (s .step-one .ensures .0) _ _ _ _ (e .before .before .before .enum-told2 .given .1) (e .end-round .ensures) (l .settle .ensures)
 
 settle-same-length-4 : (t : ℕ) → settle-lts.Need-same-length-4 (known t) (settle-at t) settle.Post
 settle-same-length-4 t c = search needs
@@ -94,7 +94,7 @@ settle-same-length-4 t c = search needs
 settle-returns-4 : (t : ℕ) → settle-lts.Need-returns-4 (known t) (settle-at t) settle.Post
 settle-returns-4 t c =
     let e = c .before .before .step-one .ensures in
-    settles-stop _ _ _ _ _ _ _ _ (c .before .before .before .before .before .if1 .left) _ _ (c .before .before .before .before .factors .ensures) (e .0) (e .1) (λ f. due-not (sym (c .enum-told3 .given .1) ∙ f))
+    settles-stop _ _ _ _ _ _ _ (c .before .before .before .before .before .if1 .left) _ _ (c .before .before .before .before .factors .ensures) (e .0) (e .1) (λ f. due-not (sym (c .enum-told3 .given .1) ∙ f))
 
 pub +settle-spec : {M : Type 1} → statement M
 +settle-spec = close μ-settle λ t. settle-lts.spec (known t) (settle-at t) settle.Post

@@ -10,9 +10,9 @@ keep-requires : tie.Need-keep-requires
 keep-requires c κs =
     let a = c .before .before .before .before in
     let h = a .pre in (
-      holds-ready _ _ _ _ _ (h .carries .words),
+      holds-ready _ _ _ _ _ (h .carries .words) .graph,
       goal-in _ _ _ (h .asking),
-      route-long _ _ _ (h .asking) _ _ _ _ (h .carries),
+      route-long _ _ _ (h .asking) _ _ _ (h .carries),
     )
 
 reopen-next-requires : tie.Need-reopen-next-requires
@@ -22,7 +22,7 @@ after-round-requires : tie.Need-after-round-requires
 after-round-requires c κs =
     let k = c .before .before .before .before .before in
     let h = k .before .before .before .before .before .before .pre in
-    few-rounds _ _ _ _ _ _ _ (h .asking) (h .carries) (h .more) (h .finished)
+    few-rounds _ _ _ _ _ _ _ (h .asking) (h .carries) (h .left-is) (h .more) (h .finished)
 
 same-length : tie.Need-same-length
 same-length c = search needs
@@ -35,7 +35,7 @@ returns c =
     let e = c .before .before .before .before .before .before .before .keep .ensures in
     record {
       ends =
-          λ d s a k m f. carries-end d _ _ s _ _ _ a k m f _ _ _ _ (e .0) (e .1) (c .before .before .before .reopen-next .ensures) (c .after-round .ensures);
+          λ d s a k l m f. carries-end d _ _ s _ _ _ a k l m f _ _ _ (e .0) (e .1) (c .before .before .before .reopen-next .ensures) (c .after-round .ensures);
     }
 
 pub end-round-spec : {M : Type 1} → statement M
