@@ -3,7 +3,7 @@ use Prim.Native.Nat.{ℕ}
 use mathlib.Core.Path.{_≡_}
 use mathlib.Core.List.{List, [], _∷_}
 use Rattle.search.specs.declared.Answer.{Answer}
-use Rattle.search.specs.Call.{Call}
+use Rattle.search.specs.Call.{Memory, Call}
 use Rattle.search.specs.Outcome.{Ending, route, noRoute, unfinished, refused, Figures, figures, answer}
 use Rattle.planner.specs.Plan.{Planned}
 
@@ -30,7 +30,7 @@ eight f =
 unfoldable pub answerFigures : Answer → List ℕ
 answerFigures a = eight (figures a)
 
--- the figures handed over, and what memory holds then: the planner call's own promise
-pub record Exported (c : Call) (figs route log work : List ℕ) : Type 0 where
+-- the figures handed over, and m is lent memory then: the planner call's own promise
+pub record Exported (c : Call) (figs : List ℕ) (m : Memory) : Type 0 where
   pub figures-are : figs ≡ answerFigures (answer c)
-  pub planned : Planned c (answer c) route log work
+  pub planned : Planned c (answer c) m

@@ -1,6 +1,6 @@
 // Planner calls and the bench text for programs in C and Rust: answers as eight figures, over numbers and lent memory.
 ghost use mathlib.Core.Path.{_≡_};
-ghost use Rattle.planner.specs.Plan.{callOf};
+ghost use Rattle.planner.specs.Plan.{memoryOf, callOf};
 ghost use Rattle.job.specs.Printed.{benchText};
 ghost use Rattle.job.specs.Texts.{Texts};
 ghost use Rattle.ffi_planner.specs.Calls.{answerFigures, Exported};
@@ -43,7 +43,7 @@ pub extern "C" fn secondcoop_plan(
     work: &mut [u32],
     figures: &mut [u64; 8],
 )
-    ensures { λ r. ⌜ Exported (callOf (now (bytes .entry)) start goal (now (anchor .entry)) (now (guides .entry)) «guide_count» (now (schedule .entry)) budget (now (route .entry)) (now (log .entry)) (now (work .entry))) (now (figures .exit)) (now (route .exit)) (now (log .exit)) (now (work .exit)) ⌝ }
+    ensures { λ r. ⌜ Exported (callOf (now (bytes .entry)) start goal (now (anchor .entry)) (now (guides .entry)) «guide_count» (now (schedule .entry)) budget (memoryOf (now (route .entry)) (now (log .entry)) (now (work .entry)))) (now (figures .exit)) (memoryOf (now (route .exit)) (now (log .exit)) (now (work .exit))) ⌝ }
 {
     let answer = planner::plan(
         bytes,

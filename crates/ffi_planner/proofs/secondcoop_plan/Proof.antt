@@ -20,7 +20,7 @@ same-length-3 : tie.Need-same-length-3
 same-length-3 c = search needs
 
 returns : tie.Need-returns
-returns c = exported _ _ _ _ _ _ (c .of-answer .ensures) (c .before .before .before .before .before .before .before .plan .ensures)
+returns c = exported _ _ _ _ (c .of-answer .ensures) (c .before .before .before .before .before .before .before .plan .ensures)
 
 pub secondcoop-plan-spec : {M : Type 1} → statement M
 secondcoop-plan-spec =

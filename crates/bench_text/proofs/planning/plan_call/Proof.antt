@@ -1,4 +1,6 @@
 -- `plan_call` meets its contract: the call, then its text.
+use mathlib.Core.Path.{ap}
+use Rattle.search.specs.Call.{Memory}
 use Rattle.job.specs.Asked.{zeros, callWith}
 use Rattle.bench_text.proofs.Calls.{handed-text}
 use borrow.Author.Needs.{needs}
@@ -33,7 +35,7 @@ returns : tie.Need-returns
 unfolding callWith zeros
 returns c =
     let h = c .before .before .before .before .before .before .before .before .before .plan .ensures in
-    handed-text _ _ _ _ (h .answers) (h .route-is) (h .log-is) (c .before .before .put-answer .ensures)
+    handed-text _ _ _ _ (h .answers) (ap (λ (m : Memory). m .route) (h .memory-is)) (ap (λ (m : Memory). m .log) (h .memory-is)) (c .before .before .put-answer .ensures)
 
 pub plan-call-spec : {M : Type 1} → statement M
 plan-call-spec =
