@@ -2,7 +2,7 @@
 use mathlib.Core.Path.{refl}
 use Rattle.leb128.specs.Number.{planGroups, more, answered, read}
 use Rattle.leb128.specs.Number
-use Rattle.graph.specs.Rows.{vertexCountRows, edgeCountRows, tailRows, headRows, costRows, through, throughAll, taking}
+use Rattle.graph.specs.Rows.{vertexCountRows, edgeCountRows, tailRows, headRows, costRows, through, throughAll, takeNumber, taking}
 use Rattle.graph.specs.Rows
 use Rattle.graph.specs.Plan.{leastAfter, past, nextEdge, before, onward, edgesFrom, header, afterHeader, decode}
 use Rattle.graph.specs.Lists.{over, edgesIn}
@@ -20,7 +20,7 @@ use Rattle.cases.proofs.TwoVertices.{two-vertices}
 use Rattle.cases.proofs.StartIsGoal.{start-is-goal}
 
 computed : Cases × Apart
-unfolding Number.decode more answered read planGroups vertexCountRows edgeCountRows tailRows headRows costRows through throughAll Rows.take taking leastAfter past nextEdge before onward edgesFrom header afterHeader decode over edgesIn edgeCost onEdge costFrom routeCost guides heuristic factors house unreached noPred routeEnd fresh origin atFirst at key offered better leastFrom least stepOne candidate choose marked lowered relax relaxAll expand firstTurn nextTurn turned ended inHand step choice turn trace traced improves costOr reopened endRound onFinished settle settled begin onDue advance run moments search inForce outOfRange rising pairs row first endsRow tablesRow scheduleRow memoryRow goalRow edgesRow faultIn faultOf tables jobIn jobFrom jobOf bound summary cutShort answerAt answerOf figures routeWords routeAfter logWord logAfter edgesBelow firstEdges markWord vertexWords workWords outcome answerIn answer memoryIn memoryAfter
+unfolding Number.decode more answered read planGroups vertexCountRows edgeCountRows tailRows headRows costRows through throughAll takeNumber taking leastAfter past nextEdge before onward edgesFrom header afterHeader decode over edgesIn edgeCost onEdge costFrom routeCost guides heuristic factors house unreached noPred routeEnd fresh origin atFirst at key offered better leastFrom least stepOne candidate choose marked lowered relax relaxAll expand firstTurn nextTurn turned ended inHand step choice turn trace traced improves costOr reopened endRound onFinished settle settled begin onDue advance run moments search inForce outOfRange rising pairs row first endsRow tablesRow scheduleRow memoryRow goalRow edgesRow faultIn faultOf tables jobIn jobFrom jobOf bound summary cutShort answerAt answerOf figures routeWords routeAfter logWord logAfter edgesBelow firstEdges markWord vertexWords workWords outcome answerIn answer memoryIn memoryAfter
 computed = (
   record {
     job-A = record { says = refl; leaves = refl };
