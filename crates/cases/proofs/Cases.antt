@@ -1,4 +1,4 @@
--- The table of document 01's (p) cases, and the job that tells its rules from others.
+-- The table of document 01's (p) cases, and the jobs that tell its rules from others.
 use mathlib.Core.Path.{refl}
 use Rattle.leb128.specs.Number.{planGroups, more, answered, read}
 use Rattle.leb128.specs.Number
@@ -15,6 +15,7 @@ use Rattle.search.specs.Outcome.{bound, summary, cutShort, answerAt, answerOf, 
 use Rattle.job.proofs.JobA.{prints-A}
 use Rattle.cases.specs.Cases.{Cases}
 use Rattle.cases.specs.Apart.{Apart}
+use Rattle.cases.proofs.Schedules.{house-schedule}
 use Rattle.cases.proofs.Ends.{plan-refused}
 use Rattle.cases.proofs.TwoVertices.{two-vertices}
 use Rattle.cases.proofs.StartIsGoal.{start-is-goal}
@@ -35,7 +36,13 @@ computed = (
     anchor-breaks-edge-0 = record { says = refl; leaves = refl };
     anchor-not-0-at-goal = record { says = refl; leaves = refl };
   },
-  record { job-B = record { says = refl; leaves = refl } },
+  record {
+    job-B = record { says = refl; leaves = refl };
+    job-C-at-3 = record { says = refl; leaves = refl };
+    job-C-at-4 = record { says = refl; leaves = refl };
+    job-C = record { says = refl; leaves = refl };
+    house-schedule = house-schedule;
+  },
 )
 
 pub all-cases : Cases
