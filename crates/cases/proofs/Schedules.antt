@@ -1,5 +1,5 @@
 -- The schedule in force is one as document 01 has it, also where the house schedule stands in its place: its six rounds.
-use mathlib.Core.Path.{_≡_}
+use mathlib.Core.Path.{_≡_, refl}
 use mathlib.Core.List.{List, [], _∷_}
 use Prim.Native.Nat.{ℕ}
 use native.Mathlib.Omega.{arith}
@@ -20,5 +20,5 @@ unfolding inForce house pairs jobIn jobFrom jobOf
 house-schedule c e = by (decode (c .bytes))
   where
     by : (d : Decoded) → jobFrom c d .schedule ≡ houseRounds
-    by (accepted v es) = rw e
-    by (refused n p) = rw e
+    by (accepted v es) = rw e refl
+    by (refused n p) = rw e refl
