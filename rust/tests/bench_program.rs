@@ -5,7 +5,7 @@ use std::fs::{self, File};
 use std::path::{Path, PathBuf};
 use std::process::Command;
 
-use secondcoop_tests::bench_text::bench_text;
+use secondcoop_tests::bench_text::{bench_text, MOST_JOB_BYTES};
 use secondcoop_tests::generate::push_number;
 
 fn root() -> PathBuf {
@@ -40,35 +40,36 @@ fn the_examples_are_printed() {
     assert!(count >= 18, "{count} examples");
 }
 
-/// A job of this many bytes: a plan of one place, with bytes left over, and
-/// the guide count as the last byte.
-fn long_job(length: usize, guide_count: u8) -> Vec<u8> {
-    // Its length in three groups, the plan, and five numbers after it.
-    let plan = length - 8;
+/// A job of 32,768 bytes, and more bytes after it: a plan of one place with
+/// bytes left over, and the guide count as the job's last byte.
+fn long_job(guide_count: u8, more: usize) -> Vec<u8> {
+    // The plan's length in three groups, the plan, and five numbers.
+    let plan = MOST_JOB_BYTES - 8;
     let mut job = Vec::new();
     push_number(&mut job, plan as u32);
     job.extend([1, 0]);
     job.resize(3 + plan, 0);
     job.extend([0, 0, 0, 0, guide_count]);
-    assert_eq!(job.len(), length);
+    assert_eq!(job.len(), 32_768);
+    job.resize(32_768 + more, 0);
     job
 }
 
-/// 32,768 bytes are read up to the last, the guide count: of nine guides, or
-/// of a byte more, the job is refused before its plan is.
+/// 32,768 bytes are read up to the last: with nine guides the job is refused
+/// before its plan is. So it is with a byte more.
 #[test]
 fn the_most_bytes_are_read_to_the_last() {
-    for (length, guide_count, expected) in [
-        (32_768, 8, "refused 7 at 2\n"),
-        (32_768, 9, "refused 14 at 0\n"),
-        (32_769, 8, "refused 14 at 0\n"),
-        (100_000, 8, "refused 14 at 0\n"),
+    for (guide_count, more, expected) in [
+        (8, 0, "refused 7 at 2\n"),
+        (9, 0, "refused 14 at 0\n"),
+        (8, 1, "refused 14 at 0\n"),
+        (8, 100_000, "refused 14 at 0\n"),
     ] {
-        let bytes = long_job(length, guide_count);
-        assert_eq!(bench_text(&bytes), expected, "{length} bytes");
-        let file = format!("{length}-bytes-{guide_count}-guides.job");
-        let job = Path::new(env!("CARGO_TARGET_TMPDIR")).join(file);
+        let bytes = long_job(guide_count, more);
+        let case = format!("{guide_count} guides, {} bytes", bytes.len());
+        assert_eq!(bench_text(&bytes), expected, "{case}");
+        let job = Path::new(env!("CARGO_TARGET_TMPDIR")).join(format!("{case}.job"));
         fs::write(&job, bytes).expect("a file is written");
-        assert_eq!(program_text(&job), expected, "{length} bytes");
+        assert_eq!(program_text(&job), expected, "{case}");
     }
 }
