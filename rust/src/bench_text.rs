@@ -1,7 +1,7 @@
 //! The bench program's text, written from the paper alone: a job is read
 //! from its bytes, planned, and its turns and ending are printed.
 
-use crate::planner::{self, Answer, Memory, Request};
+use crate::planner::{self, Answer, Event, Fault, Memory, Request};
 use crate::reference;
 
 /// The most bytes of a bench job.
@@ -9,8 +9,9 @@ pub const MOST_JOB_BYTES: usize = 32_768;
 /// The most vertices and edges of a bench job.
 pub const MOST_BENCH_VERTICES: usize = 256;
 pub const MOST_BENCH_EDGES: usize = 2_048;
-/// The bench program's log memory in words.
-pub const BENCH_LOG: usize = 8_192;
+
+/// A turn: its table and the vertex expanded.
+pub type Turn = (u32, u32);
 
 /// The numbers of a bench job up to its tables.
 struct BenchJob<'a> {
@@ -96,11 +97,13 @@ pub fn refused(number: u32, position: usize) -> String {
 
 /// What the bench program prints for a job's bytes.
 pub fn bench_text(bytes: &[u8]) -> String {
-    bench_text_by(bytes, planner::plan)
+    bench_text_by(bytes, None)
 }
 
-/// What the bench program prints for a job's bytes with a planner's answers.
-pub fn bench_text_by(bytes: &[u8], plan: impl FnOnce(&Request, Memory) -> Answer) -> String {
+/// What the bench program prints for a job's bytes, with a fault if one is
+/// wanted. The turns are those that the planner itself names: it is lent no
+/// log.
+pub fn bench_text_by(bytes: &[u8], fault: Option<Fault>) -> String {
     let Some(job) = BenchJob::read(bytes) else {
         return refused(14, 0);
     };
@@ -122,22 +125,36 @@ pub fn bench_text_by(bytes: &[u8], plan: impl FnOnce(&Request, Memory) -> Answer
         budget: job.budget,
     };
     let mut route = vec![0; vertices];
-    let mut log = vec![0; BENCH_LOG];
     let mut work = vec![0; planner::work_words(vertices, edges)];
     let memory = Memory {
         route: &mut route,
-        log: &mut log,
+        log: &mut [],
         work: &mut work,
     };
-    let answer = plan(&request, memory);
-    answer_text(&answer, &route, &log)
+    let mut turns = Vec::new();
+    let answer = planner::plan_observed(&request, memory, fault, &mut |event| {
+        if let Event::Turn { table, vertex, .. } = event {
+            turns.push((table, vertex));
+        }
+    });
+    answer_text(&answer, &route, &turns)
 }
 
-/// What is printed of an answer: a line for each turn in the log, then how
-/// the call ended.
-pub fn answer_text(answer: &Answer, route: &[u32], log: &[u32]) -> String {
-    let (turns, ending) = match *answer {
-        Answer::Refused { number, position } => return refused(number, position),
+/// The first turns that a log shows.
+pub fn logged(log: &[u32], turns: usize) -> Vec<Turn> {
+    let turn = |word: &u32| (word / 65_536, word % 65_536);
+    log.iter().take(turns).map(turn).collect()
+}
+
+/// What is printed of an answer: a line for each turn, then how the call
+/// ended.
+pub fn answer_text(answer: &Answer, route: &[u32], turns: &[Turn]) -> String {
+    let mut text = String::new();
+    for (number, (table, vertex)) in (1..).zip(turns) {
+        text.push_str(&format!("turn {number} table {table} place {vertex}\n"));
+    }
+    match *answer {
+        Answer::Refused { number, position } => refused(number, position),
         Answer::Route {
             cost,
             length,
@@ -145,22 +162,13 @@ pub fn answer_text(answer: &Answer, route: &[u32], log: &[u32]) -> String {
             turns,
             bound,
         } => {
-            let mut ending = String::from("route");
+            text.push_str("route");
             for vertex in &route[..length as usize] {
-                ending.push_str(&format!(" {vertex}"));
+                text.push_str(&format!(" {vertex}"));
             }
-            ending.push_str(&format!(
-                "\nend cost {cost} rounds {rounds} turns {turns} bound {bound}\n"
-            ));
-            (turns, ending)
+            text + &format!("\nend cost {cost} rounds {rounds} turns {turns} bound {bound}\n")
         }
-        Answer::NoRoute { turns } => (turns, format!("no route turns {turns}\n")),
-        Answer::Unfinished { turns } => (turns, format!("unfinished turns {turns}\n")),
-    };
-    let mut text = String::new();
-    for (index, word) in log.iter().take(turns as usize).enumerate() {
-        let (turn, table, vertex) = (index + 1, word / 65_536, word % 65_536);
-        text.push_str(&format!("turn {turn} table {table} place {vertex}\n"));
+        Answer::NoRoute { turns } => text + &format!("no route turns {turns}\n"),
+        Answer::Unfinished { turns } => text + &format!("unfinished turns {turns}\n"),
     }
-    text + &ending
 }

@@ -60,20 +60,13 @@ impl Planner for SecondPlanner {
 /// The second planner with a fault.
 pub struct FaultyPlanner(pub Fault);
 
-impl FaultyPlanner {
-    fn answer(&self, request: &Request, memory: Memory) -> Answer {
-        planner::plan_observed(request, memory, Some(self.0), &mut |_| ())
-    }
-}
-
 impl Planner for FaultyPlanner {
     fn plan(&self, request: &Request, memory: Memory) -> Figures {
-        self.answer(request, memory).figures()
+        planner::plan_observed(request, memory, Some(self.0), &mut |_| ()).figures()
     }
 
     fn bench_text(&self, job: &[u8], text: &mut [u8]) -> usize {
-        let plan = |request: &Request, memory: Memory| self.answer(request, memory);
-        write_text(&bench_text::bench_text_by(job, plan), text)
+        write_text(&bench_text::bench_text_by(job, Some(self.0)), text)
     }
 }
 

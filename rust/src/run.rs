@@ -2,7 +2,7 @@
 //! that the bench program takes through its text, larger ones through the
 //! planner call.
 
-use crate::bench_text::{answer_text, refused};
+use crate::bench_text::{answer_text, logged, refused};
 use crate::planner::{work_words, Answer, Memory, Request, HOUSE_SCHEDULE};
 use crate::planners::{printed, Planner};
 use crate::reference::{MOST_EDGES, MOST_VERTICES};
@@ -60,5 +60,6 @@ pub fn call(planner: &dyn Planner, job: &TextJob) -> String {
     };
     let figures = planner.plan(&request, memory);
     let answer = Answer::of_figures(figures).expect("figures of an answer");
-    answer_text(&answer, &route, &log)
+    let [.., turns, _] = figures;
+    answer_text(&answer, &route, &logged(&log, turns as usize))
 }

@@ -32,7 +32,8 @@ fn the_text_and_the_call_agree() {
     let mut count = 0;
     jobs::valid_jobs(62, 1_000, &mut |plan, job| {
         let mut job = job.clone();
-        job.log_room = bench_text::BENCH_LOG;
+        // All turns: 2·V in each of 16 rounds at most.
+        job.log_room = 2 * plan.vertices as usize * 16;
         let outcome = planners::run(&SecondPlanner, &job, count);
         let text = bench_text::bench_text(&job.bench_bytes());
         let lines: Vec<&str> = text.lines().collect();

@@ -46,6 +46,7 @@ fn all_are_there() {
         "no-route",
         "start-is-goal",
         "cut-round-two",
+        "held",
     ];
     wanted.extend(floors.map(String::from));
     wanted.sort();

@@ -7,7 +7,7 @@ use std::fs;
 use std::path::Path;
 use std::thread;
 
-use secondcoop_tests::bench_text::{BENCH_LOG, MOST_BENCH_VERTICES};
+use secondcoop_tests::bench_text::MOST_BENCH_VERTICES;
 use secondcoop_tests::ffi;
 use secondcoop_tests::generate;
 use secondcoop_tests::jobs::{self, Job};
@@ -192,16 +192,15 @@ fn several_threads_may_call() {
 #[test]
 fn the_bytes_of_a_text_are_the_proved_ones() {
     let longest = numbers()["MAX_TEXT"] as usize;
+    // A word for each turn: 2·V in each of 16 rounds.
+    let log = 2 * MOST_BENCH_VERTICES * 16;
     let spec = read("crates/job/specs/Texts.antt");
     assert!(spec.contains("maxText = logSize * 35 + (6 + routeSize * 11) + 112\n"));
     assert!(spec.contains("few : r ≤ maxText\n"));
     let sizes = read("crates/job/specs/Asked.antt");
-    assert!(sizes.contains(&format!("logSize = {BENCH_LOG}\n")));
+    assert!(sizes.contains(&format!("logSize = {log}\n")));
     assert!(sizes.contains("routeSize = maxJobVertices\n"));
-    assert_eq!(
-        BENCH_LOG * 35 + (6 + MOST_BENCH_VERTICES * 11) + 112,
-        longest
-    );
+    assert_eq!(log * 35 + (6 + MOST_BENCH_VERTICES * 11) + 112, longest);
     let program = read("crates/bench/src/main.rt");
     assert!(program.contains(&format!("const TEXT: usize = {longest};\n")));
 }

@@ -1,14 +1,13 @@
 // Job bytes to printed text, in a lent buffer.
 mod planning;
 
-ghost use Rattle.job.specs.Printed.{benchText};
-ghost use Rattle.job.specs.Texts.{Texts};
+ghost use Rattle.job.specs.Texts.{Prints};
 use job::JobRead;
 
 // The text that the bench program prints for a job: its length, and its first bytes in the buffer, as far as
-// there is room.
+// there is room; it has a line for every turn.
 pub fn bench_text(job: &[u8], out: &mut [u8]) -> usize
-    ensures { λ r. ⌜ Texts (benchText (now (job .entry))) (now (out .entry)) r (now (out .exit)) ⌝ }
+    ensures { λ r. ⌜ Prints (now (job .entry)) (now (out .entry)) r (now (out .exit)) ⌝ }
 {
     match job_reader::read(job) {
         JobRead::Accepted(front, vertices) => planning::plan_job(out, job, front, vertices),

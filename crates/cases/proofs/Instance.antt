@@ -5,7 +5,7 @@ use Prim.Native.Nat.{ℕ, _*_, _≤_}
 use Rattle.leb128.specs.Number
 use Rattle.leb128.specs.Number.{planGroups, answered, read}
 use Rattle.graph.specs.Rows
-use Rattle.graph.specs.Rows.{vertexCountRows, edgeCountRows, tailRows, headRows, costRows, through, throughAll, taking}
+use Rattle.graph.specs.Rows.{vertexCountRows, edgeCountRows, tailRows, headRows, costRows, through, throughAll, takeNumber, taking}
 use Rattle.graph.specs.Plan.{leastAfter, past, nextEdge, before, onward, edgesFrom, header, afterHeader, decode}
 use Rattle.graph.specs.Lists.{none}
 use Rattle.search.specs.Walk.{Walk}
@@ -18,7 +18,7 @@ use Rattle.cases.specs.Instance.{Instance}
 use Rattle.cases.proofs.Cases.{all-cases}
 
 admits : faultOf (jobA 100) ≡ none
-unfolding Number.decode answered read planGroups vertexCountRows edgeCountRows tailRows headRows costRows through throughAll Rows.take taking leastAfter past nextEdge before onward edgesFrom header afterHeader decode inForce scheduleOf outOfRange rising row first endsRow tablesRow scheduleRow memoryRow goalRow edgesRow faultIn faultOf
+unfolding Number.decode answered read planGroups vertexCountRows edgeCountRows tailRows headRows costRows through throughAll takeNumber taking leastAfter past nextEdge before onward edgesFrom header afterHeader decode inForce scheduleOf outOfRange rising row first endsRow tablesRow scheduleRow memoryRow goalRow edgesRow faultIn faultOf
 admits = refl
 
 holds : Guarantee (jobOf (jobA 100)) 100 (outcome (jobA 100)) (answer (jobA 100)) (memoryAfter (jobA 100))
@@ -30,5 +30,5 @@ shown r n w =
     rw says at (holds .bounded (ap (λ (f : Figures). f .ending) says) r n w)
 
 pub instance : Instance
-unfolding Number.decode answered read planGroups vertexCountRows edgeCountRows tailRows headRows costRows through throughAll Rows.take taking leastAfter past nextEdge before onward edgesFrom header afterHeader decode jobIn jobFrom jobOf
+unfolding Number.decode answered read planGroups vertexCountRows edgeCountRows tailRows headRows costRows through throughAll takeNumber taking leastAfter past nextEdge before onward edgesFrom header afterHeader decode jobIn jobFrom jobOf
 instance = record { admitted = admits; edges = refl; guarantee = holds; bounded = shown }

@@ -8,7 +8,7 @@ use lib.ListN.{length}
 use Rattle.leb128.specs.Number
 use Rattle.leb128.specs.Number.{planGroups, answered, read}
 use Rattle.graph.specs.Rows
-use Rattle.graph.specs.Rows.{vertexCountRows, edgeCountRows, through, throughAll, taking}
+use Rattle.graph.specs.Rows.{vertexCountRows, edgeCountRows, through, throughAll, takeNumber, taking}
 use Rattle.graph.specs.Plan.{edgesFrom, header, afterHeader, decode}
 use Rattle.graph.specs.Lists.{none, edgesIn}
 use Rattle.search.specs.declared.Factors.{Factors}
@@ -26,7 +26,7 @@ use Rattle.cases.proofs.Schedules.{in-force}
 use Rattle.cases.proofs.Ends.{settled-at, handed}
 
 not-refused : (ws : List ℕ) → Schedule ws → (n : ℕ) (m : Memory) → Enough 2 0 m → faultOf (twoVertices ws n m) ≡ none
-unfolding Number.decode answered read planGroups vertexCountRows edgeCountRows through throughAll Rows.take taking edgesFrom header afterHeader decode faultOf scheduleOf
+unfolding Number.decode answered read planGroups vertexCountRows edgeCountRows through throughAll takeNumber taking edgesFrom header afterHeader decode faultOf scheduleOf
 not-refused ws y n m e =
     clear-none (twoVertices ws n m) 2 []
     (record {
@@ -109,7 +109,7 @@ module _ (n : ℕ) (m : Memory) (f : Factors) (fs : List Factors) (c : Call) (e 
   leaves = rw (e, b, es, lent, runs f fs n, turned-once f fs n)
 
 rounds-of : (ws : List ℕ) → Schedule ws → (n : ℕ) (m : Memory) → (f : Factors) × (fs : List Factors) × (jobOf (twoVertices ws n m) ≡ job f fs)
-unfolding Number.decode answered read planGroups vertexCountRows edgeCountRows through throughAll Rows.take taking edgesFrom header afterHeader decode inForce scheduleOf house cyclic pairs tables jobIn jobFrom jobOf
+unfolding Number.decode answered read planGroups vertexCountRows edgeCountRows through throughAll takeNumber taking edgesFrom header afterHeader decode inForce scheduleOf house cyclic pairs tables jobIn jobFrom jobOf
 rounds-of [] y n m = (_, _, refl)
 rounds-of (u ∷ []) y n m = absurd (omega (arith, y .two))
 rounds-of (u ∷ v ∷ ws) y n m = (_, _, refl)
@@ -117,7 +117,7 @@ rounds-of (u ∷ v ∷ ws) y n m = (_, _, refl)
 pub two-vertices :
     (ws : List ℕ) → Schedule ws → (n : ℕ) → 1 ≤ n → (m : Memory) → Enough 2 0 m →
     HandsOver (twoVertices ws n m) (noRouteAfter 1) (twoVerticesAfter m)
-unfolding Number.decode answered read planGroups vertexCountRows edgeCountRows through throughAll Rows.take taking edgesFrom header afterHeader decode edgesIn
+unfolding Number.decode answered read planGroups vertexCountRows edgeCountRows through throughAll takeNumber taking edgesFrom header afterHeader decode edgesIn
 two-vertices ws y zero h m e = absurd (not-suc-le-zero h)
 two-vertices ws y (suc n) h m e =
     let c : Call = twoVertices ws (suc n) m in

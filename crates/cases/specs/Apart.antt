@@ -1,46 +1,114 @@
--- A job that tells document 01's rules from others that are sound too; not one of its (p) cases. Proved in proofs/Cases.antt.
-use mathlib.Core.List.{[], _∷_, _++_}
+-- Jobs that tell document 01's rules from others that are sound too; none of its (p) cases. Proved in proofs/Cases.antt.
+use Prim.Native.Nat.{ℕ}
+use mathlib.Core.Path.{_≡_}
+use mathlib.Core.List.{List, [], _∷_, _++_, map}
 use lib.ListN.{replicate}
-use Rattle.search.specs.Call.{Call}
-use Rattle.cases.specs.Cases.{HandsOver, routed, unset, old}
+use Rattle.search.specs.declared.Factors.{Factors}
+use Rattle.search.specs.Call.{Call, jobOf}
+use Rattle.cases.specs.Cases.{HandsOver, routed, unfinishedAfter, unset, old}
 
--- lanes 0 to 1 at 3, 0 to 2 at 5, 0 to 3 at 2, 1 to 4 at 1, 2 to 4 at 1, 3 to 2 at 1; from 0 to 4, zero anchor table
+-- lanes 0 to 1 at 0, 1 to 2 at 3, 1 to 3 at 5, 1 to 5 at 2, 2 to 4 at 1, 3 to 4 at 1, 5 to 3 at 1; from 0 to 4, zero anchor table, three guides
 abbrev pub jobB : Call
 jobB =
     record {
       bytes =
-          (0x05 ∷ 0x06 ∷ [])
-          ++ (0x00 ∷ 0x01 ∷ 0x03 ∷ 0x00 ∷ 0x02 ∷ 0x05 ∷ 0x00 ∷ 0x03 ∷ 0x02 ∷ [])
-          ++ (0x01 ∷ 0x04 ∷ 0x01 ∷ 0x01 ∷ 0x04 ∷ 0x01 ∷ 0x01 ∷ 0x02 ∷ 0x01 ∷ []);
+          (0x06 ∷ 0x07 ∷ [])
+          ++ (0x00 ∷ 0x01 ∷ 0x00 ∷ 0x01 ∷ 0x02 ∷ 0x03 ∷ 0x00 ∷ 0x03 ∷ 0x05 ∷ 0x00 ∷ 0x05 ∷ 0x02 ∷ [])
+          ++ (0x01 ∷ 0x04 ∷ 0x01 ∷ 0x01 ∷ 0x04 ∷ 0x01 ∷ 0x02 ∷ 0x03 ∷ 0x01 ∷ []);
       start = 0;
       goal = 4;
-      anchor = 0 ∷ 0 ∷ 0 ∷ 0 ∷ 0 ∷ [];
-      sheets = (0 ∷ 3 ∷ 1 ∷ 4 ∷ 0 ∷ []) ++ (0 ∷ 9 ∷ 0 ∷ 3 ∷ 9 ∷ []);
-      count = 2;
+      anchor = 0 ∷ 0 ∷ 0 ∷ 0 ∷ 0 ∷ 0 ∷ [];
+      sheets = (0 ∷ 0 ∷ 3 ∷ 1 ∷ 0 ∷ 4 ∷ []) ++ (0 ∷ 0 ∷ 1 ∷ 0 ∷ 9 ∷ 1 ∷ []) ++ (0 ∷ 0 ∷ 9 ∷ 0 ∷ 9 ∷ 3 ∷ []);
+      count = 3;
       schedule = 100 ∷ 250 ∷ 100 ∷ 100 ∷ [];
       budget = 100;
-      memory = record { route = replicate 5 old; log = replicate 6 old; work = replicate 38 old };
+      memory = record { route = replicate 6 old; log = replicate 7 old; work = replicate 45 old };
     }
 
--- turn 2: equal keys of 2 and 3, the lowest is taken, its 100·key equal to W2·m
--- turn 3: guide 1 has nothing within W2·m, and the anchor fills its turn though guide 2 has
--- round 1 ends: the trace 0 3 2 4 costs 4, and g(goal) is 6
--- turn 4: round 2 starts with guide 1 again, who has nothing within W2·m; of the equal anchor keys of 1 and 2 the lowest is taken
--- turn 5: its 100·key is equal to W2·m
--- round 2 ends: 10,000·g(goal) is equal to W2·m; the trace 0 1 4 costs 4 too, and 0 3 2 4 is kept; marks stay
+-- lanes 0 to 1 at 3, 0 to 2 at 0, 1 to 3 at 0, 2 to 1 at 1, 3 to 4 at 2; from 0 to 4, no guides, with this allowance
+abbrev pub jobC : ℕ → Call
+jobC budget =
+    record {
+      bytes =
+          (0x05 ∷ 0x05 ∷ [])
+          ++ (0x00 ∷ 0x01 ∷ 0x03 ∷ 0x00 ∷ 0x02 ∷ 0x00 ∷ 0x01 ∷ 0x03 ∷ 0x00 ∷ 0x01 ∷ 0x01 ∷ 0x01 ∷ 0x01 ∷ 0x04 ∷ 0x02 ∷ []);
+      start = 0;
+      goal = 4;
+      anchor = 3 ∷ 2 ∷ 3 ∷ 2 ∷ 0 ∷ [];
+      sheets = [];
+      count = 0;
+      schedule = 300 ∷ 500 ∷ 150 ∷ 100 ∷ [];
+      budget = budget;
+      memory = record { route = replicate 6 old; log = replicate 7 old; work = replicate 37 old };
+    }
+
+-- its work memory, with the words of vertices 0 to 4
+abbrev pub workC : List ℕ → List ℕ → List ℕ → List ℕ → List ℕ → List ℕ
+workC p q r s t =
+    (0 ∷ 2 ∷ 3 ∷ 4 ∷ 5 ∷ 5 ∷ []) ++ (1 ∷ 2 ∷ 3 ∷ 1 ∷ 4 ∷ []) ++ (3 ∷ 0 ∷ 0 ∷ 1 ∷ 2 ∷ []) ++ p ++ q ++ r ++ s ++ t ++ (old ∷ [])
+
+-- a round with W1 = W2
+abbrev pub alike : ℕ → Factors
+alike w = record { w1 = w; w2 = w }
+
+-- the house schedule's six rounds
+abbrev pub houseRounds : List Factors
+houseRounds = map alike (500 ∷ 300 ∷ 200 ∷ 150 ∷ 120 ∷ 100 ∷ [])
+
 pub record Apart : Type 0 where
+  -- turns 1 to 3: guides 1, 2 and 3, in this order
+  -- turn 3: equal keys of 3 and 5, the lowest is taken, its 100·key equal to W2·m
+  -- turn 4: guide 1 follows the last, and has nothing within W2·m; the anchor fills its turn though guide 2 has
+  -- round 1 ends: the trace 0 1 5 3 4 costs 4, and g(goal) is 6
+  -- turn 5: round 2 starts with guide 1 again, who has nothing within W2·m; of the equal anchor keys of 2 and 3 the lowest is taken
+  -- turn 6: its 100·key is equal to W2·m
+  -- round 2 ends: 10,000·g(goal) is equal to W2·m; the trace 0 1 2 4 costs 4 too, and 0 1 5 3 4 is kept; marks stay
+  -- vertex 4 has no edges: its first edge number is that of vertex 5
   pub job-B :
-      HandsOver jobB (routed 4 4 2 5 10000)
+      HandsOver jobB (routed 4 5 2 6 10000)
       (record {
-        route = 0 ∷ 3 ∷ 2 ∷ 4 ∷ unset ∷ [];
-        log = 65536 ∷ 131074 ∷ 3 ∷ 1 ∷ 131074 ∷ old ∷ [];
+        route = 0 ∷ 1 ∷ 5 ∷ 3 ∷ 4 ∷ unset ∷ [];
+        log = 65536 ∷ 131073 ∷ 196611 ∷ 5 ∷ 2 ∷ 131075 ∷ old ∷ [];
         work =
-            (0 ∷ 3 ∷ 4 ∷ 5 ∷ 6 ∷ 6 ∷ [])
-            ++ (1 ∷ 2 ∷ 3 ∷ 4 ∷ 4 ∷ 2 ∷ [])
-            ++ (3 ∷ 5 ∷ 2 ∷ 1 ∷ 1 ∷ 1 ∷ [])
+            (0 ∷ 1 ∷ 4 ∷ 5 ∷ 6 ∷ 6 ∷ 7 ∷ [])
+            ++ (1 ∷ 2 ∷ 3 ∷ 5 ∷ 4 ∷ 4 ∷ 3 ∷ [])
+            ++ (0 ∷ 3 ∷ 5 ∷ 2 ∷ 1 ∷ 1 ∷ 1 ∷ [])
             ++ (0 ∷ 0 ∷ unset ∷ 0 ∷ [])
-            ++ (3 ∷ 3 ∷ 0 ∷ 2 ∷ [])
-            ++ (3 ∷ 3 ∷ 3 ∷ 1 ∷ [])
-            ++ (2 ∷ 2 ∷ 0 ∷ 0 ∷ [])
-            ++ (4 ∷ unset ∷ 1 ∷ 4 ∷ []);
+            ++ (0 ∷ 0 ∷ 0 ∷ 0 ∷ [])
+            ++ (3 ∷ 3 ∷ 1 ∷ 2 ∷ [])
+            ++ (3 ∷ 3 ∷ 5 ∷ 1 ∷ [])
+            ++ (4 ∷ unset ∷ 2 ∷ 4 ∷ [])
+            ++ (2 ∷ 2 ∷ 1 ∷ 0 ∷ []);
       })
+  -- turn 3 finds vertex 1, which has the anchor mark, at a lower cost: it is held, and the round goes on without it
+  pub job-C-at-3 :
+      HandsOver (jobC 3) (unfinishedAfter 3)
+      (record {
+        route = replicate 6 old;
+        log = 0 ∷ 1 ∷ 2 ∷ old ∷ old ∷ old ∷ old ∷ [];
+        work =
+            workC (0 ∷ 0 ∷ unset ∷ 2 ∷ []) (1 ∷ 3 ∷ 2 ∷ 10 ∷ []) (0 ∷ 0 ∷ 0 ∷ 2 ∷ []) (3 ∷ unset ∷ 1 ∷ 4 ∷ [])
+            (unset ∷ unset ∷ unset ∷ 0 ∷ []);
+      })
+  -- round 1 ends: the trace 0 2 1 3 4 costs 3, and g(goal) is 5; at round 2's beginning vertex 1 is open
+  pub job-C-at-4 :
+      HandsOver (jobC 4) (routed 3 5 1 4 150000)
+      (record {
+        route = 0 ∷ 2 ∷ 1 ∷ 3 ∷ 4 ∷ old ∷ [];
+        log = 0 ∷ 1 ∷ 2 ∷ 3 ∷ old ∷ old ∷ old ∷ [];
+        work =
+            workC (0 ∷ 0 ∷ unset ∷ 0 ∷ []) (1 ∷ 3 ∷ 2 ∷ 4 ∷ []) (0 ∷ 0 ∷ 0 ∷ 0 ∷ []) (3 ∷ 3 ∷ 1 ∷ 0 ∷ [])
+            (5 ∷ unset ∷ 3 ∷ 4 ∷ []);
+      })
+  -- round 2 takes vertex 1 up again, then 3
+  pub job-C :
+      HandsOver (jobC 100) (routed 3 5 2 6 15000)
+      (record {
+        route = 0 ∷ 2 ∷ 1 ∷ 3 ∷ 4 ∷ old ∷ [];
+        log = 0 ∷ 1 ∷ 2 ∷ 3 ∷ 1 ∷ 3 ∷ old ∷ [];
+        work =
+            workC (0 ∷ 0 ∷ unset ∷ 0 ∷ []) (1 ∷ 1 ∷ 2 ∷ 2 ∷ []) (0 ∷ 0 ∷ 0 ∷ 0 ∷ []) (1 ∷ 1 ∷ 1 ∷ 2 ∷ [])
+            (3 ∷ unset ∷ 3 ∷ 4 ∷ []);
+      })
+  -- an empty schedule means the house schedule
+  pub house-schedule : (c : Call) → c .schedule ≡ [] → jobOf c .schedule ≡ houseRounds

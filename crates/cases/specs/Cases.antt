@@ -20,10 +20,10 @@ pub record HandsOver (c : Call) (f : Figures) (m : Memory) : Type 0 where
   pub says : figures (answer c) ≡ f
   pub leaves : memoryAfter c ≡ m
 
--- a route: kept cost, length, finished rounds, turns, W1·W2 of the last finished round
+-- a route: kept cost, its number of vertices, finished rounds, turns, W1·W2 of the last finished round
 abbrev pub routed : ℕ → ℕ → ℕ → ℕ → ℕ → Figures
-routed cost length rounds turns bound =
-    record { ending = route; number = 0; position = 0; cost = cost; length = length; rounds = rounds; turns = turns; bound = bound }
+routed cost vertices rounds turns bound =
+    record { ending = route; number = 0; position = 0; cost = cost; length = vertices; rounds = rounds; turns = turns; bound = bound }
 
 abbrev pub noRouteAfter : ℕ → Figures
 noRouteAfter turns = record { ending = noRoute; number = 0; position = 0; cost = 0; length = 0; rounds = 0; turns = turns; bound = 0 }

@@ -1,8 +1,7 @@
 // Planner calls and the bench text for programs in C and Rust: answers as eight figures, over numbers and lent memory.
 ghost use mathlib.Core.Path.{_≡_};
 ghost use Rattle.planner.specs.Plan.{memoryOf, callOf};
-ghost use Rattle.job.specs.Printed.{benchText};
-ghost use Rattle.job.specs.Texts.{Texts};
+ghost use Rattle.job.specs.Texts.{Prints};
 ghost use Rattle.ffi_planner.specs.Calls.{answerFigures, Exported};
 use search::Answer;
 
@@ -64,7 +63,7 @@ pub extern "C" fn secondcoop_plan(
 // The text that the bench program prints for a job.
 #[no_mangle]
 pub extern "C" fn secondcoop_bench_text(job: &[u8], text: &mut [u8]) -> usize
-    ensures { λ r. ⌜ Texts (benchText (now (job .entry))) (now (text .entry)) r (now (text .exit)) ⌝ }
+    ensures { λ r. ⌜ Prints (now (job .entry)) (now (text .entry)) r (now (text .exit)) ⌝ }
 {
     bench_text::bench_text(job, text)
 }

@@ -5,3 +5,4 @@ pub mod Accepted
 pub mod Lines
 pub mod JobA
 pub mod Refusals
+pub mod Turns

@@ -1,14 +1,16 @@
 -- What the bench program prints for a job's bytes.
-use Prim.Native.Nat.{ℕ}
-use mathlib.Core.List.{List, _++_}
+use Prim.Native.Nat.{ℕ, _≤_}
+use mathlib.Core.Path.{_≡_}
+use mathlib.Core.List.{List, _++_, map}
 use lib.ListN.{take}
 use Rattle.text.specs.Text.{turnLines, routeLine, endLine, noRouteLine, unfinishedLine, refusedLine}
-use Rattle.search.specs.Call.{Call}
-use Rattle.search.specs.Outcome.{Ending, route, noRoute, unfinished, refused, Figures, figures, answer, memoryAfter}
+use Rattle.graph.specs.Lists.{none}
+use Rattle.search.specs.Call.{Call, faultOf}
+use Rattle.search.specs.Outcome.{Ending, route, noRoute, unfinished, refused, Figures, figures, logWord, outcome, answer, memoryAfter}
 use Rattle.job.specs.declared.JobRead.{JobRead}
 use Rattle.job.specs.declared.JobRead.the-variants.{Accepted, Refused}
 use Rattle.job.specs.Reading.{jobRead}
-use Rattle.job.specs.Asked.{callAsked}
+use Rattle.job.specs.Asked.{logSize, callAsked}
 
 -- the turns that log memory shows
 unfoldable pub turns : Figures → List ℕ → List ℕ
@@ -36,3 +38,8 @@ textOf s (Refused n p) = refusedLine n p
 -- job bytes → printed text
 unfoldable pub benchText : List ℕ → List ℕ
 benchText s = textOf s (jobRead s)
+
+-- the turn lines are those of every turn of the call: the log holds them all. Proved of accepted jobs in proofs/Turns.antt
+pub record EveryTurn (c : Call) : Type 0 where
+  pub held : figures (answer c) .turns ≤ logSize
+  pub shown : faultOf c ≡ none → turns (figures (answer c)) (memoryAfter c .log) ≡ turnLines (map logWord (outcome c .history))

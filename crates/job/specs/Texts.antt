@@ -1,9 +1,14 @@
 -- A text in the bench program's lent buffer, and its most bytes.
 use Prim.Native.Nat.{ℕ, _+_, _*_, _≤_}
+use mathlib.Core.Path.{_≡_}
 use mathlib.Core.List.{List}
 use lib.ListN.{length}
 use Rattle.text.specs.Laid.{Put}
-use Rattle.job.specs.Asked.{routeSize, logSize}
+use Rattle.job.specs.declared.Front.{Front}
+use Rattle.job.specs.declared.JobRead.the-variants.{Accepted}
+use Rattle.job.specs.Reading.{jobRead}
+use Rattle.job.specs.Asked.{routeSize, logSize, callAsked}
+use Rattle.job.specs.Printed.{benchText, EveryTurn}
 
 -- no text is longer: a turn line for each log word, the route line, the end line
 abbrev pub maxText : ℕ
@@ -13,6 +18,11 @@ maxText = logSize * 35 + (6 + routeSize * 11) + 112
 pub record Texts (text old : List ℕ) (r : ℕ) (new : List ℕ) : Type 0 where
   pub put : Put 0 text old r new
   pub few : r ≤ maxText
+
+-- a job's text in the buffer; an accepted job's has a line for every turn of the call that it asks
+pub record Prints (s old : List ℕ) (r : ℕ) (new : List ℕ) : Type 0 where
+  pub texts : Texts (benchText s) old r new
+  pub every-turn : (f : Front) (v : ℕ) → jobRead s ≡ Accepted f v → EveryTurn (callAsked s f v)
 
 -- route and log memory are no longer than the bench program's
 pub record BenchSized (route log : List ℕ) : Type 0 where

@@ -15,44 +15,44 @@ use Rattle.graph.specs.declared.EdgeRead.the-variants.{Next}
 use Rattle.graph.specs.declared.EdgeRead.the-variants as edgeRead
 use Rattle.graph.specs.declared.PlanRead.{PlanRead}
 use Rattle.graph.specs.declared.PlanRead.the-variants.{Sizes, Refused}
-use Rattle.graph.specs.Rows.{take, taking, tailRows, headRows, costRows}
+use Rattle.graph.specs.Rows.{takeNumber, taking, tailRows, headRows, costRows}
 use Rattle.graph.specs.Plan.{Decoded, accepted, refused, firstAt, leastAfter, past, nextEdge, before, onward, edgesFrom, sizes}
 use Rattle.graph.proofs.Rows.{Passed, take-passed}
 
 -- ---- the next edge
 
 -- a tail that was taken is a vertex, and so is a head
-pub taken-tail : (v t : ℕ) (s : List ℕ) (at d next : ℕ) → take s at (tailRows v t) ≡ Number d next → t + d < v
+pub taken-tail : (v t : ℕ) (s : List ℕ) (at d next : ℕ) → takeNumber s at (tailRows v t) ≡ Number d next → t + d < v
 unfolding tailRows
 taken-tail v t s at d next h =
     let p : Passed s at (tailRows v t) d next = take-passed s at (tailRows v t) d next h in leb-false v (t + d) (p .passes .0)
 
-pub taken-head : (v l : ℕ) (s : List ℕ) (at h next : ℕ) → take s at (headRows v l) ≡ Number h next → h < v
+pub taken-head : (v l : ℕ) (s : List ℕ) (at h next : ℕ) → takeNumber s at (headRows v l) ≡ Number h next → h < v
 unfolding headRows
 taken-head v l s at h next e =
     let p : Passed s at (headRows v l) h next = take-passed s at (headRows v l) h next e in leb-false v h (p .passes .0)
 
 module _ (v : ℕ) (s : List ℕ) (c : Cursor) where
   module _ (n p : ℕ) where
-    pub tail-refused : take s (c .at) (tailRows v (c .tail)) ≡ taken.Refused n p → edgeRead.Refused n p ≡ nextEdge v s c
+    pub tail-refused : takeNumber s (c .at) (tailRows v (c .tail)) ≡ taken.Refused n p → edgeRead.Refused n p ≡ nextEdge v s c
     unfolding nextEdge taking
     tail-refused e = rw e
 
     pub head-refused :
-        (d headAt l : ℕ) → take s (c .at) (tailRows v (c .tail)) ≡ Number d headAt → l ≡ cond (eqb d 0) (c .least) 0 →
-        take s headAt (headRows v l) ≡ taken.Refused n p → edgeRead.Refused n p ≡ nextEdge v s c
+        (d headAt l : ℕ) → takeNumber s (c .at) (tailRows v (c .tail)) ≡ Number d headAt → l ≡ cond (eqb d 0) (c .least) 0 →
+        takeNumber s headAt (headRows v l) ≡ taken.Refused n p → edgeRead.Refused n p ≡ nextEdge v s c
     unfolding nextEdge taking leastAfter
     head-refused d headAt l a k e = rw (a, sym k, e)
 
     pub cost-refused :
-        (d headAt l h costAt : ℕ) → take s (c .at) (tailRows v (c .tail)) ≡ Number d headAt → l ≡ cond (eqb d 0) (c .least) 0 →
-        take s headAt (headRows v l) ≡ Number h costAt → take s costAt costRows ≡ taken.Refused n p → edgeRead.Refused n p ≡ nextEdge v s c
+        (d headAt l h costAt : ℕ) → takeNumber s (c .at) (tailRows v (c .tail)) ≡ Number d headAt → l ≡ cond (eqb d 0) (c .least) 0 →
+        takeNumber s headAt (headRows v l) ≡ Number h costAt → takeNumber s costAt costRows ≡ taken.Refused n p → edgeRead.Refused n p ≡ nextEdge v s c
     unfolding nextEdge taking leastAfter
     cost-refused d headAt l h costAt a k i e = rw (a, sym k, i, e)
 
   pub edge-taken :
-      (d headAt l h costAt x end : ℕ) → take s (c .at) (tailRows v (c .tail)) ≡ Number d headAt → l ≡ cond (eqb d 0) (c .least) 0 →
-      take s headAt (headRows v l) ≡ Number h costAt → take s costAt costRows ≡ Number x end →
+      (d headAt l h costAt x end : ℕ) → takeNumber s (c .at) (tailRows v (c .tail)) ≡ Number d headAt → l ≡ cond (eqb d 0) (c .least) 0 →
+      takeNumber s headAt (headRows v l) ≡ Number h costAt → takeNumber s costAt costRows ≡ Number x end →
       Next (record { tail = c .tail + d; head = h; cost = x }) (record { at = end; tail = c .tail + d; least = h + 1 }) ≡ nextEdge v s c
   unfolding nextEdge taking leastAfter past
   edge-taken d headAt l h costAt x end a k i e = rw (a, sym k, i, e)

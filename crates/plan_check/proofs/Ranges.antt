@@ -9,7 +9,7 @@ use Rattle.leb128.specs.Number.{read, planGroups}
 use Rattle.graph.specs.declared.Taken.the-variants.{Number}
 use Rattle.graph.specs.declared.Taken.the-variants as taken
 use Rattle.graph.specs.Limits.{maxVertices, maxEdges, maxCost}
-use Rattle.graph.specs.Rows.{Row, through, throughAll, take, vertexCountRows, edgeCountRows, headRows, costRows}
+use Rattle.graph.specs.Rows.{Row, through, throughAll, takeNumber, vertexCountRows, edgeCountRows, headRows, costRows}
 use Rattle.plan_check.specs.Range.{rangeRows}
 
 module _ (s : List ℕ) (at : ℕ) where
@@ -21,11 +21,11 @@ module _ (s : List ℕ) (at : ℕ) where
     alike-by (Refused p) = refl
     alike-by (Value x next) = same x next
 
-    alike : take s at rows ≡ take s at rows′
-    unfolding take
+    alike : takeNumber s at rows ≡ takeNumber s at rows′
+    unfolding takeNumber
     alike = alike-by (read planGroups s at)
 
-  pub vertex-count-range : take s at (rangeRows (maxVertices + 1) 2 1 2) ≡ take s at vertexCountRows
+  pub vertex-count-range : takeNumber s at (rangeRows (maxVertices + 1) 2 1 2) ≡ takeNumber s at vertexCountRows
   unfolding rangeRows vertexCountRows through
   vertex-count-range = alike (rangeRows (maxVertices + 1) 2 1 2) vertexCountRows same
     where
@@ -33,14 +33,14 @@ module _ (s : List ℕ) (at : ℕ) where
       same zero next = refl
       same (suc x) next = rw (eqb·suc-zero x, leb·suc-suc (suc x) 0, leb·suc-zero x)
 
-  pub edge-count-range : take s at (rangeRows (maxEdges + 1) 3 0 3) ≡ take s at edgeCountRows
+  pub edge-count-range : takeNumber s at (rangeRows (maxEdges + 1) 3 0 3) ≡ takeNumber s at edgeCountRows
   unfolding rangeRows edgeCountRows through
   edge-count-range = alike (rangeRows (maxEdges + 1) 3 0 3) edgeCountRows (λ x next. rw (leb·suc-zero x))
 
-  pub cost-range : take s at (rangeRows (maxCost + 1) 5 0 5) ≡ take s at costRows
+  pub cost-range : takeNumber s at (rangeRows (maxCost + 1) 5 0 5) ≡ takeNumber s at costRows
   unfolding rangeRows costRows through
   cost-range = alike (rangeRows (maxCost + 1) 5 0 5) costRows (λ x next. rw (leb·suc-zero x))
 
-  pub head-range : (v l : ℕ) → take s at (rangeRows v 4 l 6) ≡ take s at (headRows v l)
+  pub head-range : (v l : ℕ) → takeNumber s at (rangeRows v 4 l 6) ≡ takeNumber s at (headRows v l)
   unfolding rangeRows headRows
   head-range v l = refl

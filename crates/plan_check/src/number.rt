@@ -1,6 +1,6 @@
 // A plan number through all its rows: read, or refused with the offset of its first byte.
 ghost use mathlib.Core.Path.{_≡_};
-ghost use Rattle.graph.specs.Rows.{take, vertexCountRows, edgeCountRows, tailRows, headRows, costRows};
+ghost use Rattle.graph.specs.Rows.{takeNumber, vertexCountRows, edgeCountRows, tailRows, headRows, costRows};
 ghost use Rattle.plan_check.specs.Range.{rangeRows};
 use graph::Taken;
 use leb128::NumberRead;
@@ -8,7 +8,7 @@ use leb128::NumberRead;
 // A number through the rows of a range: `above` where it is the limit or more, then `below` where it is
 // under the least.
 fn take_in(bytes: &[u8], at: usize, limit: u32, above: u32, least: u32, below: u32) -> Taken
-    ensures { λ r. ⌜ r ≡ take (now (bytes .entry)) at (rangeRows limit above least below) ⌝ }
+    ensures { λ r. ⌜ r ≡ takeNumber (now (bytes .entry)) at (rangeRows limit above least below) ⌝ }
 {
     let NumberRead::Value(value, next) = leb128_reader::read_plan_number(bytes, at) else {
         return Taken::Refused(1, at);
@@ -24,21 +24,21 @@ fn take_in(bytes: &[u8], at: usize, limit: u32, above: u32, least: u32, below: u
 
 // V, at the front: refusals 1 and 2.
 pub fn take_vertex_count(bytes: &[u8]) -> Taken
-    ensures { λ r. ⌜ r ≡ take (now (bytes .entry)) 0 vertexCountRows ⌝ }
+    ensures { λ r. ⌜ r ≡ takeNumber (now (bytes .entry)) 0 vertexCountRows ⌝ }
 {
     take_in(bytes, 0, graph::MAX_VERTICES + 1, 2, 1, 2)
 }
 
 // M: refusals 1 and 3.
 pub fn take_edge_count(bytes: &[u8], at: usize) -> Taken
-    ensures { λ r. ⌜ r ≡ take (now (bytes .entry)) at edgeCountRows ⌝ }
+    ensures { λ r. ⌜ r ≡ takeNumber (now (bytes .entry)) at edgeCountRows ⌝ }
 {
     take_in(bytes, at, graph::MAX_EDGES + 1, 3, 0, 3)
 }
 
 // The difference of a tail to the tail before it: refusals 1 and 4. The sum is tested, which may pass 32 bits.
 pub fn take_tail(bytes: &[u8], at: usize, vertices: u32, tail: u32) -> Taken
-    ensures { λ r. ⌜ r ≡ take (now (bytes .entry)) at (tailRows vertices tail) ⌝ }
+    ensures { λ r. ⌜ r ≡ takeNumber (now (bytes .entry)) at (tailRows vertices tail) ⌝ }
 {
     let NumberRead::Value(difference, next) = leb128_reader::read_plan_number(bytes, at) else {
         return Taken::Refused(1, at);
@@ -52,14 +52,14 @@ pub fn take_tail(bytes: &[u8], at: usize, vertices: u32, tail: u32) -> Taken
 
 // A head: refusals 1, 4 and 6.
 pub fn take_head(bytes: &[u8], at: usize, vertices: u32, least: u32) -> Taken
-    ensures { λ r. ⌜ r ≡ take (now (bytes .entry)) at (headRows vertices least) ⌝ }
+    ensures { λ r. ⌜ r ≡ takeNumber (now (bytes .entry)) at (headRows vertices least) ⌝ }
 {
     take_in(bytes, at, vertices, 4, least, 6)
 }
 
 // A cost: refusals 1 and 5.
 pub fn take_cost(bytes: &[u8], at: usize) -> Taken
-    ensures { λ r. ⌜ r ≡ take (now (bytes .entry)) at costRows ⌝ }
+    ensures { λ r. ⌜ r ≡ takeNumber (now (bytes .entry)) at costRows ⌝ }
 {
     take_in(bytes, at, graph::MAX_COST + 1, 5, 0, 5)
 }

@@ -9,7 +9,7 @@ use Rattle.leb128.specs.Number.{read, planGroups}
 use Rattle.leb128.specs.declared.NumberRead.the-variants.{Value, Refused}
 use Rattle.graph.specs.declared.Cursor.{Cursor}
 use Rattle.graph.specs.declared.Taken.the-variants.{Number}
-use Rattle.graph.specs.Rows.{Row, take, tailRows, headRows, costRows}
+use Rattle.graph.specs.Rows.{Row, takeNumber, tailRows, headRows, costRows}
 use Rattle.graph.specs.Plan.{leastAfter}
 use Rattle.plan_reader.specs.Stored.{HasNext}
 use Rattle.graph.proofs.Rows.{Passes, Passed, passed-take}
@@ -26,7 +26,7 @@ module _ (s : List ℕ) (at : ℕ) (rows : ℕ → List Row) (x next : ℕ) (p :
   next-same : (y end : ℕ) → read planGroups s at ≡ Value y end → next ≡ end
   next-same y end e = let v : Value x next ≡ Value y end = sym (p .reads) ∙ e in cc
 
-  taken : (y end : ℕ) → read planGroups s at ≡ Value y end → take s at rows ≡ Number y end
+  taken : (y end : ℕ) → read planGroups s at ≡ Value y end → takeNumber s at rows ≡ Number y end
   taken y end e = passed-take s at rows y end e (subst (λ (z : ℕ). Passes (rows z)) (value-same y end e) (p .passes))
 
 module _ (v : ℕ) (s : List ℕ) (c : Cursor) (h : HasNext v s c) where
@@ -38,7 +38,7 @@ module _ (v : ℕ) (s : List ℕ) (c : Cursor) (h : HasNext v s c) where
 
   -- the tail's difference d
   module _ (d headAt : ℕ) (a : read planGroups s (c .at) ≡ Value d headAt) where
-    pub tail-taken : take s (c .at) (tailRows v (c .tail)) ≡ Number d headAt
+    pub tail-taken : takeNumber s (c .at) (tailRows v (c .tail)) ≡ Number d headAt
     tail-taken = taken s (c .at) (tailRows v (c .tail)) (h .edge .tail - c .tail) (found .headAt) (found .tailRead) d headAt a
 
     head-passed : Passed s headAt (headRows v (cond (eqb d 0) (c .least) 0)) (h .edge .head) (found .costAt)
@@ -54,7 +54,7 @@ module _ (v : ℕ) (s : List ℕ) (c : Cursor) (h : HasNext v s c) where
     head-there = never s headAt (headRows v (cond (eqb d 0) (c .least) 0)) (h .edge .head) (found .costAt) head-passed
 
     module _ (x costAt : ℕ) (b : read planGroups s headAt ≡ Value x costAt) where
-      pub head-taken : take s headAt (headRows v (cond (eqb d 0) (c .least) 0)) ≡ Number x costAt
+      pub head-taken : takeNumber s headAt (headRows v (cond (eqb d 0) (c .least) 0)) ≡ Number x costAt
       head-taken = taken s headAt (headRows v (cond (eqb d 0) (c .least) 0)) (h .edge .head) (found .costAt) head-passed x costAt b
 
       cost-passed : Passed s costAt costRows (h .edge .cost) (h .after .at)
@@ -65,5 +65,5 @@ module _ (v : ℕ) (s : List ℕ) (c : Cursor) (h : HasNext v s c) where
       pub cost-there : (q : ℕ) → read planGroups s costAt ≡ Refused q → ⊥
       cost-there = never s costAt costRows (h .edge .cost) (h .after .at) cost-passed
 
-      pub cost-taken : (y end : ℕ) → read planGroups s costAt ≡ Value y end → take s costAt costRows ≡ Number y end
+      pub cost-taken : (y end : ℕ) → read planGroups s costAt ≡ Value y end → takeNumber s costAt costRows ≡ Number y end
       cost-taken = taken s costAt costRows (h .edge .cost) (h .after .at) cost-passed

@@ -3,7 +3,7 @@ use Prim.Native.Nat.{ℕ, _*_, _≤_, _<_}
 use native.Mathlib.Nat.{mul-le-mul-right}
 use native.Mathlib.Omega.{arith}
 use mathlib.Core.Path.{_≡_, sym, ap, _∙_}
-use mathlib.Core.List.{List, [], _∷_}
+use mathlib.Core.List.{List}
 use lib.ListN.{length}
 use Rattle.graph.specs.Limits.{maxVertices}
 use Rattle.graph.proofs.Within.{accepted-within}
@@ -19,12 +19,6 @@ use Rattle.planner.specs.Carried.{Asking, wordsOf, Carries}
 use Rattle.search.specs.declared.Progress.{Progress}
 use Rattle.search.proofs.Words.{route-kept}
 use Rattle.planner.proofs.Jobs.{Accepted, accepts, job-size, plan-edges, job-schedule}
-
-half : (ws : List ℕ) → 2 * length (pairs ws) ≤ length ws
-unfolding pairs
-half [] = omega arith
-half (u ∷ []) = omega arith
-half (u ∷ v ∷ ws) = omega (arith, half ws)
 
 module _ (c : Call) (z : Size) (q : Query) (a : Asking c z q) where
   plan : Accepted c
@@ -71,9 +65,6 @@ module _ (c : Call) (z : Size) (q : Query) (a : Asking c z q) where
   -- at most 16 rounds, of two factors each
   pub schedule-short : length (scheduleOf c) ≤ 32
   schedule-short = omega (arith, rows .schedule .few, rows .schedule .two)
-
-  pub rounds-few : length (jobOf c .schedule) ≤ 16
-  rounds-few = omega (arith, ap length (job-schedule c), half (scheduleOf c), schedule-short)
 
   -- the rounds that the code counts
   module _ (schedule : List ℕ) (d : schedule ≡ scheduleOf c) where

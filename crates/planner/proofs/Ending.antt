@@ -15,7 +15,7 @@ use Rattle.search.specs.Rounds.{ended, step, reopened, endRound}
 use Rattle.search.specs.Call.{Memory, Call, planEdges, jobOf}
 use Rattle.search.specs.Outcome.{routeAfter}
 use Rattle.search.proofs.Tools.{le-cases}
-use Rattle.search.proofs.Admitted.{admitted}
+use Rattle.search.proofs.Admitted.{admitted, rounds-few}
 use Rattle.search.proofs.Standing.{Over, round-over}
 use Rattle.admission.specs.declared.Query.{Query}
 use Rattle.workspace.specs.declared.Size.{Size}
@@ -27,7 +27,6 @@ use Rattle.route.specs.Kept.{keptCost, keptRoute}
 use Rattle.route.proofs.Ended.{ends-cost, ends-route}
 use Rattle.planner.specs.Carried.{Asking, wordsOf, Carries}
 use Rattle.planner.proofs.Jobs.{first-few, job-guides, job-start, job-goal, job-edges}
-use Rattle.planner.proofs.Asked.{rounds-few}
 
 -- another round follows, if more than one was left
 next-left : (r n : ℕ) → ltb 1 (n - r) ≡ ltb (suc r) n
@@ -103,4 +102,4 @@ module _ (c : Call) (z : Size) (q : Query) (s : State) (left : ℕ) (p : Progres
 
   -- the record counts no further than the schedule
   pub few-rounds : p .rounds < 4294967295
-  few-rounds = omega (arith, ap (λ (x : Progress). x .rounds) (k .progress), more, rounds-few c z q a)
+  few-rounds = omega (arith, ap (λ (x : Progress). x .rounds) (k .progress), more, rounds-few c (a .admitted))

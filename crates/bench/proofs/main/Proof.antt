@@ -33,10 +33,10 @@ bench-text-requires : tie.Need-bench-text-requires
 bench-text-requires c κs = search needs
 
 array-share-prefix-text : tie.Need-array-share-prefix-text
-array-share-prefix-text c = text-fits room (c .before .bench-text .ensures)
+array-share-prefix-text c = text-fits room (c .before .bench-text .ensures .texts)
 
 slice-aggregate-write-all : tie.Need-slice-aggregate-write-all
-slice-aggregate-write-all c = sym (length-take-le _ _ (text-fits room (c .before .before .bench-text .ensures)))
+slice-aggregate-write-all c = sym (length-take-le _ _ (text-fits room (c .before .before .bench-text .ensures .texts)))
 
 write-all-requires : tie.Need-write-all-requires
 write-all-requires c κs = search needs

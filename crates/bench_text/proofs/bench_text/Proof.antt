@@ -1,9 +1,16 @@
--- `bench_text` meets its contract: the job is read, and asked or refused.
+-- `bench_text` meets its contract: the job is read, and asked or refused; the log holds every turn.
+use Prim.Native.Nat.{ℕ}
 use mathlib.Core.Path.{sym, _∙_}
+use mathlib.Core.List.{List}
 use Rattle.job.specs.Printed.{textOf, benchText}
+use Rattle.job.specs.Texts.{Texts, Prints}
+use Rattle.job.proofs.Turns.{every-turn}
 use borrow.Author.Needs.{needs}
 use Rattle.bench_text.proofs.bench_text.Statement.{statement}
 use Rattle.bench_text.proofs.bench_text.Tie as tie
+
+printed : {s old : List ℕ} {r : ℕ} {new : List ℕ} → Texts (benchText s) old r new → Prints s old r new
+printed {s = s} t = record { texts = t; every-turn = every-turn s }
 
 read-requires : tie.Need-read-requires
 read-requires c κs = search needs
@@ -25,14 +32,14 @@ same-length c = search needs
 
 returns : tie.Need-returns
 unfolding benchText textOf
-returns c = rw (sym (c .before .before .before .before .before .before .before .read .ensures) ∙ c .before .before .before .before .before .front .given .1) (c .before .before .plan-job .ensures)
+returns c = printed (rw (sym (c .before .before .before .before .before .before .before .read .ensures) ∙ c .before .before .before .before .before .front .given .1) (c .before .before .plan-job .ensures))
 
 same-length-2 : tie.Need-same-length-2
 same-length-2 c = search needs
 
 returns-2 : tie.Need-returns-2
 unfolding benchText textOf
-returns-2 c = rw (sym (c .before .before .before .before .before .before .before .read .ensures) ∙ c .before .before .before .before .before .n .given .1) (c .before .before .put-refused .ensures)
+returns-2 c = printed (rw (sym (c .before .before .before .before .before .before .before .read .ensures) ∙ c .before .before .before .before .before .n .given .1) (c .before .before .put-refused .ensures))
 
 pub bench-text-spec : {M : Type 1} → statement M
 bench-text-spec =
