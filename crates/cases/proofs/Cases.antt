@@ -17,11 +17,12 @@ use Rattle.cases.specs.Cases.{Cases}
 use Rattle.cases.specs.Apart.{Apart}
 use Rattle.cases.proofs.Schedules.{house-schedule}
 use Rattle.cases.proofs.Ends.{plan-refused}
+use Rattle.search.specs.Guarantee.{withPick}
 use Rattle.cases.proofs.TwoVertices.{two-vertices}
 use Rattle.cases.proofs.StartIsGoal.{start-is-goal}
 
 computed : Cases × Apart
-unfolding Number.decode more answered read planGroups vertexCountRows edgeCountRows tailRows headRows costRows through throughAll takeNumber taking leastAfter past nextEdge before onward edgesFrom header afterHeader decode over edgesIn edgeCost onEdge costFrom routeCost cyclic guides heuristic factors house unreached noPred routeEnd fresh origin atFirst at key offered better leastFrom least stepOne candidate choose marked lowered relax relaxAll expand firstTurn nextTurn turned ended inHand step choice turn trace traced improves costOr reopened endRound onFinished settle settled begin onDue advance run moments search inForce scheduleOf outOfRange rising pairs row first endsRow tablesRow scheduleRow memoryRow goalRow edgesRow faultIn faultOf planEdges tables jobIn jobFrom jobOf bound summary cutShort answerAt answerOf figures routeWords routeAfter logWord logAfter edgesBelow firstEdges markWord vertexWords workWords outcome answerIn answer memoryIn memoryAfter
+unfolding Number.decode more answered read planGroups vertexCountRows edgeCountRows tailRows headRows costRows through throughAll takeNumber taking leastAfter past nextEdge before onward edgesFrom header afterHeader decode over edgesIn edgeCost onEdge costFrom routeCost cyclic guides heuristic factors house unreached noPred routeEnd fresh origin atFirst at key offered better leastFrom least stepOne candidate choose marked lowered relax relaxAll expand firstTurn nextTurn turned ended inHand step choice turn trace traced improves costOr reopened endRound onFinished settle settled begin onDue advance run moments search inForce scheduleOf outOfRange rising pairs row first endsRow tablesRow scheduleRow memoryRow goalRow edgesRow faultIn faultOf planEdges tables jobIn jobFrom jobOf bound summary cutShort answerAt answerOf figures routeWords routeAfter logWord logAfter edgesBelow firstEdges markWord vertexWords workWords outcome answerIn answer memoryIn memoryAfter withPick
 computed = (
   record {
     job-A = record { says = refl; leaves = refl };
@@ -41,6 +42,7 @@ computed = (
     job-C-at-3 = record { says = refl; leaves = refl };
     job-C-at-4 = record { says = refl; leaves = refl };
     job-C = record { says = refl; leaves = refl };
+    guide-3 = refl;
     house-schedule = house-schedule;
   },
 )

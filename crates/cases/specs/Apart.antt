@@ -4,7 +4,10 @@ use mathlib.Core.Path.{_≡_}
 use mathlib.Core.List.{List, [], _∷_, _++_, map}
 use lib.ListN.{replicate}
 use Rattle.search.specs.declared.Factors.{Factors}
+use Rattle.search.specs.Rounds.{search}
 use Rattle.search.specs.Call.{Call, jobOf}
+use Rattle.search.specs.Outcome.{logWord}
+use Rattle.search.specs.Guarantee.{withPick}
 use Rattle.cases.specs.Cases.{HandsOver, routed, unfinishedAfter, unset, old}
 
 -- lanes 0 to 1 at 0, 1 to 2 at 3, 1 to 3 at 5, 1 to 5 at 2, 2 to 4 at 1, 3 to 4 at 1, 5 to 3 at 1; from 0 to 4, zero anchor table, three guides
@@ -110,5 +113,7 @@ pub record Apart : Type 0 where
             workC (0 ∷ 0 ∷ unset ∷ 0 ∷ []) (1 ∷ 1 ∷ 2 ∷ 2 ∷ []) (0 ∷ 0 ∷ 0 ∷ 0 ∷ []) (1 ∷ 1 ∷ 1 ∷ 2 ∷ [])
             (3 ∷ unset ∷ 3 ∷ 4 ∷ []);
       })
+  -- under another rule, guide 3 having every turn, job B has other turns: what `AnyRule` speaks of
+  pub guide-3 : map logWord (search (withPick (λ s. 3) (jobOf jobB)) 100 .history) ≡ 196608 ∷ 196609 ∷ 196611 ∷ 196613 ∷ 196611 ∷ 2 ∷ []
   -- an empty schedule means the house schedule
   pub house-schedule : (c : Call) → c .schedule ≡ [] → jobOf c .schedule ≡ houseRounds
