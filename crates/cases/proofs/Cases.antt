@@ -3,7 +3,6 @@ use mathlib.Core.Path.{refl}
 use Rattle.leb128.specs.Number.{planGroups, more, answered, read}
 use Rattle.leb128.specs.Number
 use Rattle.graph.specs.Rows.{vertexCountRows, edgeCountRows, tailRows, headRows, costRows, through, throughAll, takeNumber, taking}
-use Rattle.graph.specs.Rows
 use Rattle.graph.specs.Plan.{leastAfter, past, nextEdge, before, onward, edgesFrom, header, afterHeader, decode}
 use Rattle.graph.specs.Lists.{over, edgesIn}
 use Rattle.search.specs.Walk.{edgeCost, onEdge, costFrom, routeCost}

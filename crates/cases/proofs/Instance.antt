@@ -4,7 +4,6 @@ use mathlib.Core.List.{List}
 use Prim.Native.Nat.{ℕ, _*_, _≤_}
 use Rattle.leb128.specs.Number
 use Rattle.leb128.specs.Number.{planGroups, answered, read}
-use Rattle.graph.specs.Rows
 use Rattle.graph.specs.Rows.{vertexCountRows, edgeCountRows, tailRows, headRows, costRows, through, throughAll, takeNumber, taking}
 use Rattle.graph.specs.Plan.{leastAfter, past, nextEdge, before, onward, edgesFrom, header, afterHeader, decode}
 use Rattle.graph.specs.Lists.{none}

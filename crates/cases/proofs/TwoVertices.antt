@@ -7,7 +7,6 @@ use native.Mathlib.Omega.{arith}
 use lib.ListN.{length}
 use Rattle.leb128.specs.Number
 use Rattle.leb128.specs.Number.{planGroups, answered, read}
-use Rattle.graph.specs.Rows
 use Rattle.graph.specs.Rows.{vertexCountRows, edgeCountRows, through, throughAll, takeNumber, taking}
 use Rattle.graph.specs.Plan.{edgesFrom, header, afterHeader, decode}
 use Rattle.graph.specs.Lists.{none, edgesIn}

@@ -4,7 +4,6 @@ use mathlib.Core.Path.{_≡_, refl, sym, ap, _∙_, subst}
 use mathlib.Core.List.{List, []}
 use lib.ListN.{length}
 use lib.Seq.{take-nil}
-use Rattle.graph.specs.declared.Edge.{Edge}
 use Rattle.graph.specs.Lists.{none, fault, over, edgesIn}
 use Rattle.search.specs.declared.Progress.{Progress}
 use Rattle.search.specs.declared.Answer.{Answer}

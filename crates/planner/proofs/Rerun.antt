@@ -3,13 +3,13 @@ use Prim.Native.Nat.{ℕ, zero, suc, _+_, _-_, _≤_, _<_}
 use native.Mathlib.Omega.{arith}
 use mathlib.Core.Path.{_≡_, refl, sym, ap, _∙_, subst}
 use mathlib.Core.Bool.{Bool, true, false, _&&_}
-use mathlib.Core.List.{List, _∷_, _++_, append-nil}
+use mathlib.Core.List.{List}
 use lib.Dec.{ltb}
 use borrow.Author.Tests.{ltb-true, ltb-false}
 use Rattle.search.specs.declared.Step.{Step}
 use Rattle.search.specs.declared.Step.the-variants.{Stuck, Finished, Due}
 use Rattle.search.specs.Job.{Job}
-use Rattle.search.specs.Rounds.{Stand, Moment, choice, begin, advance, run, moments}
+use Rattle.search.specs.Rounds.{begin, run, moments}
 use Rattle.search.specs.Call.{Memory, jobOf}
 use Rattle.search.proofs.Runs.{moments-within, run-suc, moments-suc, run-stays, moments-stay}
 use Rattle.workspace.specs.declared.Size.{Size}

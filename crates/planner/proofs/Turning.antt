@@ -13,7 +13,7 @@ use Rattle.search.specs.declared.Step.the-variants.{Due}
 use Rattle.search.specs.Job.{State, Job, cyclic, guides, heuristic, factors}
 use Rattle.search.specs.Turn.{candidate, expand}
 use Rattle.search.specs.Rounds.{Stand, Moment, turned, inHand, choice, turn, settle, settled, advance, run, moments}
-use Rattle.search.specs.Call.{Memory, Call, scheduleOf, pairs, tables, planEdges, jobOf}
+use Rattle.search.specs.Call.{Memory, Call, pairs, tables, planEdges, jobOf}
 use Rattle.search.specs.Outcome.{routeAfter, logWord, logAfter}
 use Rattle.search.specs.Bounds.{maxKey}
 use Rattle.search.proofs.Facts.{InRange, Valid}

@@ -1,5 +1,5 @@
 -- `plan` meets its contract: refused as it must be, or answered as defined, with the guarantee.
-use mathlib.Core.Path.{refl, sym, _∙_}
+use mathlib.Core.Path.{sym, _∙_}
 use Rattle.planner.specs.Plan.{memoryOf, callOf}
 use Rattle.planner.proofs.Handed.{picked, asks-here, planned-refused, lent-is, lent-here, planned}
 use borrow.Author.Needs.{needs}
