@@ -2,6 +2,8 @@
 mod consistency;
 mod rows;
 
+ghost use Prim.Native.Nat.{_<_};
+ghost use lib.ListN.{length};
 ghost use Rattle.admission.specs.Admission.{Decided};
 use graph::Header;
 use graph::PlanRead;
@@ -38,6 +40,7 @@ pub fn decide(
     schedule: &[u32],
     lengths: Lengths,
 ) -> Verdict
+    requires { ⌜ 0 < length (now schedule) ⌝ }
     ensures { λ r. ⌜ Decided (now (bytes .entry)) q (now (anchor .entry)) (now (guides .entry)) (now (schedule .entry)) lengths r ⌝ }
 {
     match plan_check::header(bytes) {

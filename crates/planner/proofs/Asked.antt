@@ -11,14 +11,14 @@ use Rattle.search.specs.Job.{State, factors}
 use Rattle.search.specs.Call.{Memory, Call, scheduleOf, pairs, jobOf}
 use Rattle.search.specs.Admitted.{Admissible}
 use Rattle.search.proofs.Facts.{Valid, InRange}
-use Rattle.search.proofs.Admitted.{clear, admitted}
+use Rattle.search.proofs.Admitted.{clear, admitted, plan-edges}
 use Rattle.workspace.specs.declared.Size.{Size}
 use Rattle.workspace.specs.Layout.{base, Room}
 use Rattle.admission.specs.declared.Query.{Query}
 use Rattle.planner.specs.Carried.{Asking, wordsOf, Carries}
 use Rattle.search.specs.declared.Progress.{Progress}
 use Rattle.search.proofs.Words.{route-kept}
-use Rattle.planner.proofs.Jobs.{Accepted, accepts, job-size, plan-edges, job-schedule}
+use Rattle.planner.proofs.Jobs.{Accepted, accepts, job-size, job-schedule}
 
 module _ (c : Call) (z : Size) (q : Query) (a : Asking c z q) where
   plan : Accepted c
@@ -60,7 +60,7 @@ module _ (c : Call) (z : Size) (q : Query) (a : Asking c z q) where
 
   pub words-room : Room z (wordsOf (c .memory))
   unfolding base
-  words-room = record { work = omega (arith, rows .work-room, same, a .edges, ap length (plan-edges c plan)) }
+  words-room = record { work = omega (arith, rows .work-room, same, a .edges, ap length (plan-edges c (plan .v) (plan .es) (plan .plan))) }
 
   -- at most 16 rounds, of two factors each
   pub schedule-short : length (scheduleOf c) ≤ 32

@@ -14,7 +14,7 @@ use Rattle.search.specs.Job.{State, Job, guides, atFirst}
 use Rattle.search.specs.Rounds.{Stand, firstTurn, settle, settled, begin}
 use Rattle.search.specs.Call.{Memory, Call, pairs, planEdges, jobOf}
 use Rattle.search.specs.Outcome.{routeAfter}
-use Rattle.search.proofs.Admitted.{admitted}
+use Rattle.search.proofs.Admitted.{admitted, plan-edges}
 use Rattle.search.proofs.Standing.{first-ok}
 use Rattle.workspace.specs.declared.Size.{Size}
 use Rattle.workspace.specs.Layout.{base, Words, Room, graphWords, Becomes}
@@ -26,7 +26,7 @@ use Rattle.planner.specs.declared.Standing.{Standing}
 use Rattle.planner.specs.Plan.{memoryOf}
 use Rattle.planner.specs.Carried.{wordsOf, Carries, Stands, Settling, Settles}
 use Rattle.planner.specs.Begun.{Called}
-use Rattle.planner.proofs.Jobs.{first-few, Accepted, accepts, job-size, plan-edges, job-guides, job-start}
+use Rattle.planner.proofs.Jobs.{first-few, Accepted, accepts, job-size, job-guides, job-start}
 use Rattle.planner.proofs.Asked.{start-in, words-room, rounds-are}
 
 -- the state at first
@@ -63,7 +63,7 @@ module _ (c : Call) (z : Size) (q : Query) (bytes anchor schedule : List ℕ) (a
 
   edges-are : edgesIn (edgesFrom (z .vertices) (z .edges) bytes (firstAt at)) ≡ planEdges c
   unfolding edgesIn
-  edges-are = ap edgesIn edges-read ∙ sym (plan-edges c plan)
+  edges-are = ap edgesIn edges-read ∙ sym (plan-edges c (plan .v) (plan .es) (plan .plan))
 
   size-is : z .vertices ≡ plan .v
   size-is = h .asking .vertices ∙ job-size c plan
@@ -77,7 +77,7 @@ module _ (c : Call) (z : Size) (q : Query) (bytes anchor schedule : List ℕ) (a
   pub load-asks : (sizes (edgesFrom (z .vertices) (z .edges) bytes (firstAt at)) ≡ Sizes (z .vertices) (z .edges)) × (base z ≤ length (m .work))
   unfolding sizes
   load-asks = (
-    ap sizes edges-read ∙ rw (sym size-is, sym (plan-edges c plan), count-is) refl,
+    ap sizes edges-read ∙ rw (sym size-is, sym (plan-edges c (plan .v) (plan .es) (plan .plan)), count-is) refl,
     omega (arith, room .work),
   )
 
@@ -97,7 +97,7 @@ module _ (c : Call) (z : Size) (q : Query) (bytes anchor schedule : List ℕ) (a
     module _ (m′ : Memory) (p : Progress) (f : Becomes z (atFirst (z .vertices) (q .start)) u (wordsOf m′)) (same : m′ .route ≡ m .route)
         (g : p ≡ firstProgress (q .guides)) where
       rises : Rising (z .vertices) 0 (planEdges c)
-      rises = rw (size-is, plan-edges c plan) (accepted-rising (c .bytes) (plan .v) (plan .es) (plan .plan))
+      rises = rw (size-is, plan-edges c (plan .v) (plan .es) (plan .plan)) (accepted-rising (c .bytes) (plan .v) (plan .es) (plan .plan))
 
       vertices-are : atFirst (z .vertices) (q .start) ≡ atFirst (job .size) (job .start)
       vertices-are = rw (h .asking .vertices, h .asking .start, job-start c) refl

@@ -1,15 +1,24 @@
--- Lent memory as the code has it: what is carried does not depend on the log, and so functions without one have an empty one.
+-- A call and lent memory as the code has them: what is carried does not depend on the log, and so functions without one have an empty one.
 use mathlib.Core.Path.{_≡_, ap, _∙_}
-use mathlib.Core.List.{List}
+use mathlib.Core.List.{List, []}
 use Prim.Native.Nat.{ℕ}
 use Rattle.search.specs.declared.Progress.{Progress}
 use Rattle.search.specs.Job.{State}
 use Rattle.search.specs.Rounds.{Stand}
 use Rattle.search.specs.Call.{Memory, Call}
+use Rattle.admission.specs.declared.Query.{Query}
 use Rattle.workspace.specs.declared.Size.{Size}
 use Rattle.planner.specs.declared.Standing.{Standing}
 use Rattle.planner.specs.Plan.{memoryOf}
 use Rattle.planner.specs.Carried.{Carries, Stands}
+
+-- what a call asks besides slices
+abbrev pub queryOf : Call → Query
+queryOf c = record { start = c .start; goal = c .goal; guides = c .count; budget = c .budget }
+
+-- memory as a function has it that is not lent the log
+abbrev pub unlogged : Memory → Memory
+unlogged m = memoryOf (m .route) [] (m .work)
 
 pub carries-log :
     {c : Call} {z : Size} {s : State} {p : Progress} {route log work : List ℕ} (log′ : List ℕ) → Carries c z s p (memoryOf route log work) →

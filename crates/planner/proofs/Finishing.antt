@@ -31,6 +31,7 @@ use Rattle.admission.specs.declared.Query.{Query}
 use Rattle.planner.specs.declared.Standing.{Standing}
 use Rattle.planner.specs.Carried.{Asking, Carries}
 use Rattle.planner.specs.Finished.{factorsIn, summaryIn, cutIn, Figured, AtEnd}
+use Rattle.planner.proofs.Carrying.{queryOf}
 use Rattle.planner.proofs.Jobs.{job-factors, job-schedule}
 use Rattle.planner.proofs.Asked.{in-range, route-long, small}
 
@@ -127,12 +128,7 @@ module _ (c : Call) (z : Size) (q : Query) (a : Asking c z q) (s : State) (p : P
 
 module _ (c : Call) (z : Size) (y : Stand) (s : Standing) (schedule route : List ℕ) (m : Memory) (o : route ≡ m .route)
     (h : AtEnd c z y s schedule m) where
-  -- what was asked, as far as the answer goes
-  query : Query
-  query = record { start = c .start; goal = c .goal; guides = c .count; budget = c .budget }
-
-  asks : Asking c z query
-  unfolding query
+  asks : Asking c z (queryOf c)
   asks =
       record {
         admitted = h .admitted;
@@ -141,11 +137,10 @@ module _ (c : Call) (z : Size) (y : Stand) (s : Standing) (schedule route : List
         start = refl;
         goal = refl;
         guides = refl;
-        budget = refl;
       }
 
   pub end-figured : Figured z (s .progress) schedule route
-  end-figured = figured c z query asks (y .state) (s .progress) schedule route m (h .schedule-is) o (h .stands .carries)
+  end-figured = figured c z (queryOf c) asks (y .state) (s .progress) schedule route m (h .schedule-is) o (h .stands .carries)
 
   at-step : (t : Step) → s .step ≡ t → answerOf (jobOf c) y ≡ answerAt (jobOf c) t (y .state)
   unfolding answerOf
@@ -164,11 +159,11 @@ module _ (c : Call) (z : Size) (y : Stand) (s : Standing) (schedule route : List
   pub answers-route : (r : Summary) → s .step ≡ Finished → r ≡ summaryIn z (s .progress) schedule route → Route r ≡ answerOf (jobOf c) y
   unfolding answerAt
   answers-route r e f =
-      ap Route (f ∙ summary-is c z query asks (y .state) (s .progress) schedule route m (h .schedule-is) o (h .stands .carries) (some-round e))
+      ap Route (f ∙ summary-is c z (queryOf c) asks (y .state) (s .progress) schedule route m (h .schedule-is) o (h .stands .carries) (some-round e))
       ∙ sym (at-step Finished e)
 
   pub answers-cut : (r : Answer) (n a : ℕ) → s .step ≡ Due n a → r ≡ cutIn z (s .progress) schedule route → r ≡ answerOf (jobOf c) y
   unfolding answerAt
   answers-cut r n a e f =
-      f ∙ cut-is c z query asks (y .state) (s .progress) schedule route m (h .schedule-is) o (h .stands .carries)
+      f ∙ cut-is c z (queryOf c) asks (y .state) (s .progress) schedule route m (h .schedule-is) o (h .stands .carries)
       ∙ sym (at-step (Due n a) e)

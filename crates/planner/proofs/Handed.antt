@@ -1,10 +1,11 @@
 -- A call that is not refused, from lent memory to what is handed over.
-use Prim.Native.Nat.{ℕ}
+use Prim.Native.Nat.{ℕ, _<_}
+use native.Mathlib.Omega.{arith}
 use mathlib.Core.Path.{_≡_, refl, sym, ap, _∙_, subst}
-use mathlib.Core.List.{List, []}
+use mathlib.Core.List.{List, [], _∷_}
 use lib.ListN.{length}
 use lib.Seq.{take-nil}
-use Rattle.graph.specs.Lists.{none, fault, over, edgesIn}
+use Rattle.graph.specs.Lists.{none, fault, over}
 use Rattle.search.specs.declared.Progress.{Progress}
 use Rattle.search.specs.declared.Answer.{Answer}
 use Rattle.search.specs.declared.Answer.the-variants as answers
@@ -12,7 +13,7 @@ use Rattle.search.specs.Job.{Job, house}
 use Rattle.search.specs.Rounds.{begin, run, moments, search}
 use Rattle.search.specs.Call.{Memory, Call, inForce, scheduleOf, faultOf, planEdges, jobOf}
 use Rattle.search.specs.Outcome.{answerOf, logAfter, workWords, outcome, answerIn, answer, memoryIn, memoryAfter}
-use Rattle.search.proofs.Admitted.{admitted}
+use Rattle.search.proofs.Admitted.{admitted, plan-edges}
 use Rattle.search.proofs.Standing.{begin-good}
 use Rattle.search.proofs.Runs.{begin-expansions}
 use Rattle.search.proofs.Guarantee.{guaranteed, any-rule}
@@ -20,16 +21,16 @@ use Rattle.workspace.specs.declared.Size.{Size}
 use Rattle.admission.specs.declared.Query.{Query}
 use Rattle.admission.specs.declared.Verdict.{Verdict}
 use Rattle.admission.specs.declared.Verdict.the-variants.{Admitted, Refused}
-use Rattle.admission.specs.Admission.{verdictOf, Asks}
+use Rattle.admission.specs.Admission.{verdictOf, Decided}
 use Rattle.admission.proofs.Admits.{Admits, admits, refuses}
 use Rattle.planner.specs.declared.Standing.{Standing}
-use Rattle.planner.specs.Plan.{memoryOf, Planned}
+use Rattle.planner.specs.Plan.{memoryOf, callOf, Planned}
 use Rattle.planner.specs.Carried.{wordsOf, Stands}
 use Rattle.planner.specs.Reached.{Reaches, Running, Runs}
 use Rattle.planner.specs.Begun.{Called, Beginning, Begins}
 use Rattle.planner.specs.Finished.{AtEnd, Finishing, Finishes}
 use Rattle.planner.specs.Planning.{Lent, Admission, Answers}
-use Rattle.planner.proofs.Carrying.{stands-log, same-memory}
+use Rattle.planner.proofs.Carrying.{queryOf, unlogged, stands-log, same-memory}
 
 -- ---- the search begins
 
@@ -42,7 +43,7 @@ module _ (c : Call) (z : Size) (q : Query) (at : ℕ) (bytes anchor guides sched
   abbrev job : Job
   job = jobOf c
 
-  pub called : Called c z q bytes anchor schedule at (memoryOf (m .route) [] (m .work))
+  pub called : Called c z q bytes anchor schedule at (unlogged m)
   called =
       record {
         asking = l .asking;
@@ -55,7 +56,7 @@ module _ (c : Call) (z : Size) (q : Query) (at : ℕ) (bytes anchor guides sched
       }
 
   module _ (first : Standing) (route work : List ℕ)
-      (b : Begins z q bytes anchor schedule at (memoryOf (m .route) [] (m .work)) first (memoryOf route [] work)) where
+      (b : Begins z q bytes anchor schedule at (unlogged m) first (memoryOf route [] work)) where
     pub reaches-begin : Reaches c z (begin job) [] first (memoryOf route (m .log) work)
     reaches-begin =
         let y : Stands c z (begin job) first (memoryOf route [] work) = b .begins c called in
@@ -87,84 +88,86 @@ module _ (c : Call) (z : Size) (q : Query) (at : ℕ) (bytes anchor guides sched
 
 -- ---- refused, or not
 
--- the schedule in force, as the code picks it
-pub picked : (c : Call) (schedule usual : List ℕ) → schedule ≡ inForce usual (c .schedule) → usual ≡ house → schedule ≡ scheduleOf c
-unfolding scheduleOf
-picked c schedule usual e u = e ∙ ap (λ (x : List ℕ). inForce x (c .schedule)) u
+pub picked-some : (given schedule usual : List ℕ) → schedule ≡ inForce usual given → usual ≡ house → 0 < length schedule
+unfolding inForce house
+picked-some [] schedule usual e u = omega (arith, ap length (e ∙ u))
+picked-some (w ∷ ws) schedule usual e u = omega (arith, ap length e)
 
-module _ (c : Call) where
-  -- what is asked of the call, as it stands
-  pub asks-here :
-      (schedule : List ℕ) → schedule ≡ scheduleOf c →
-      Asks c (c .bytes) (record { start = c .start; goal = c .goal; guides = c .count; budget = c .budget }) (c .anchor) (c .sheets) schedule
-      (record { route = length (c .memory .route); work = length (c .memory .work) })
-  asks-here schedule s =
-      record {
+-- a call with these arguments, the schedule in force, and what is decided of it
+module _ (bytes : List ℕ) (start goal : ℕ) (anchor sheets : List ℕ) (count : ℕ) (given : List ℕ) (budget : ℕ) (m : Memory)
+    (schedule usual : List ℕ) (e : schedule ≡ inForce usual given) (u : usual ≡ house) (d : Verdict)
+    (k : Decided bytes (queryOf (callOf bytes start goal anchor sheets count given budget m)) anchor sheets schedule
+    (record { route = length (m .route); work = length (m .work) }) d) where
+  abbrev c : Call
+  c = callOf bytes start goal anchor sheets count given budget m
+
+  picked : schedule ≡ scheduleOf c
+  unfolding scheduleOf
+  picked = e ∙ ap (λ (x : List ℕ). inForce x given) u
+
+  decided : d ≡ verdictOf c
+  decided =
+      k .decided c
+      (record {
         bytes-is = refl;
         start-is = refl;
         goal-is = refl;
         anchor-is = refl;
         sheets-is = refl;
         count-is = refl;
-        schedule-is = sym s;
+        schedule-is = sym picked;
         route-is = refl;
         work-is = refl;
-      }
+      })
 
-  pub planned-refused : (n p : ℕ) → verdictOf c ≡ Refused n p → Planned c (answers.Refused n p) (c .memory)
+  pub planned-refused : (n p : ℕ) → d ≡ Refused n p → Planned c (answers.Refused n p) m
   unfolding answer answerIn memoryAfter memoryIn
-  planned-refused n p e =
-      let f : faultOf c ≡ fault n p = refuses c n p e in
+  planned-refused n p h =
+      let f : faultOf c ≡ fault n p = refuses c n p (sym decided ∙ h) in
       record { answers = rw f refl; memory-is = rw f refl; promise = guaranteed c; any-rule = any-rule c }
 
-  -- what the code makes of a call that is admitted
-  module _ (schedule : List ℕ) (s : schedule ≡ scheduleOf c) (d : Verdict) (v m at : ℕ) (f : d ≡ verdictOf c) (g : d ≡ Admitted v m at) where
+  module _ (vertices edges at : ℕ) (h : d ≡ Admitted vertices edges at) where
     abbrev size : Size
-    size = record { vertices = v; edges = m }
+    size = record { vertices = vertices; edges = edges }
 
-    abbrev query : Query
-    query = record { start = c .start; goal = c .goal; guides = c .count; budget = c .budget }
+    admitted-so : Admits c vertices edges at
+    admitted-so = admits c vertices edges at (sym decided ∙ h)
 
-    admitted-so : Admits c v m at
-    admitted-so = admits c v m at (sym f ∙ g)
-
-    edges-are : planEdges c ≡ admitted-so .edges
-    unfolding planEdges edgesIn
-    edges-are = ap edgesIn (admitted-so .plan)
-
-    pub lent-is : Lent c size query at (c .bytes) (c .anchor) (c .sheets) schedule (c .memory)
+    lent-is : Lent c size (queryOf c) at bytes anchor sheets schedule m
     lent-is =
         record {
           asking =
               record {
                 admitted = admitted-so .none;
                 vertices = sym (admitted-so .size);
-                edges = sym (admitted-so .count) ∙ ap length (sym edges-are);
+                edges = sym (admitted-so .count) ∙ ap length (sym (plan-edges c vertices (admitted-so .edges) (admitted-so .plan)));
                 start = refl;
                 goal = refl;
                 guides = refl;
-                budget = refl;
               };
+          budget-is = refl;
           bytes-is = refl;
           header-is = admitted-so .header-is;
-          given = record { anchor-is = refl; sheets-is = refl; schedule-is = s };
+          given = record { anchor-is = refl; sheets-is = refl; schedule-is = picked };
           memory-is = refl;
         }
 
-    pub lent-here : Admission size query at (c .bytes) (c .anchor) (c .sheets) schedule (c .memory)
+    pub lent-here : Admission size (queryOf c) at bytes anchor sheets schedule m
     lent-here = record { call = c; lent = lent-is }
 
-  pub planned : (r : Answer) (m : Memory) → (r ≡ answer c) × (m ≡ memoryAfter c) → Planned c r m
-  planned r m h = record { answers = h .0; memory-is = h .1; promise = guaranteed c; any-rule = any-rule c }
+    pub planned : (r : Answer) (m′ : Memory) → Answers size (queryOf c) at bytes anchor sheets schedule m r m′ → Planned c r m′
+    planned r m′ y =
+        let o : (r ≡ answer c) × (m′ ≡ memoryAfter c) = y .answered c lent-is in
+        record { answers = o .0; memory-is = o .1; promise = guaranteed c; any-rule = any-rule c }
 
 -- ---- what the code asks on the way, and what it answers
 
 module _ (z : Size) (q : Query) (at : ℕ) (bytes anchor guides schedule : List ℕ) (m : Memory) where
-  pub beginning : Admission z q at bytes anchor guides schedule m → Beginning z q bytes anchor schedule at (memoryOf (m .route) [] (m .work))
+  pub beginning : Admission z q at bytes anchor guides schedule m → Beginning z q bytes anchor schedule at (unlogged m)
   beginning a = record { call = a .call; called = called (a .call) z q at bytes anchor guides schedule m (a .lent) }
 
   module _ (first : Standing) (route work : List ℕ)
-      (b : Begins z q bytes anchor schedule at (memoryOf (m .route) [] (m .work)) first (memoryOf route [] work)) where
+      (b : Begins z q bytes anchor schedule at (unlogged m) first (memoryOf route [] work)) where
     pub running : Admission z q at bytes anchor guides schedule m → Running z q anchor guides schedule first (memoryOf route (m .log) work)
     running a =
         record {
@@ -202,6 +205,6 @@ module _ (z : Size) (q : Query) (at : ℕ) (bytes anchor guides schedule : List 
           record {
             answered =
                 λ c l.
-                handed c z q at bytes anchor guides schedule m l first route work b (q .budget) last m′ k r (l .asking .budget)
+                handed c z q at bytes anchor guides schedule m l first route work b (q .budget) last m′ k r (l .budget-is)
                 (f .finishes c (run (jobOf c) (q .budget) (begin (jobOf c))) m′ refl (at-end c l));
           }

@@ -125,7 +125,3 @@ module _ (c : Call) (a : Accepted c) where
   pub job-size : jobOf c .size ≡ a .v
   unfolding jobOf jobFrom jobIn
   job-size = rw (a .plan)
-
-  pub plan-edges : planEdges c ≡ a .es
-  unfolding planEdges edgesIn
-  plan-edges = rw (a .plan)

@@ -26,7 +26,6 @@ pub record Asking (c : Call) (z : Size) (q : Query) : Type 0 where
   pub start : q .start ≡ c .start
   pub goal : q .goal ≡ c .goal
   pub guides : q .guides ≡ c .count
-  pub budget : q .budget ≡ c .budget
 
 -- the part of lent memory in which vertices lie
 abbrev pub wordsOf : Memory → Words

@@ -15,6 +15,7 @@ use Rattle.planner.specs.Reached.{Given}
 -- the call as the code has it, where the plan's first edge stands at the offset `at`
 pub record Lent (c : Call) (z : Size) (q : Query) (at : ℕ) (bytes anchor guides schedule : List ℕ) (m : Memory) : Type 0 where
   pub asking : Asking c z q
+  pub budget-is : q .budget ≡ c .budget
   pub bytes-is : bytes ≡ c .bytes
   pub header-is : header (c .bytes) ≡ Counts (z .vertices) (z .edges) at
   pub given : Given c anchor guides schedule

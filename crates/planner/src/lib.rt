@@ -40,7 +40,7 @@ pub fn plan(
     ensures { λ r. ⌜ Planned (callOf (now (bytes .entry)) start goal (now (anchor .entry)) (now (guides .entry)) «guide_count» (now (schedule .entry)) budget (memoryOf (now (route .entry)) (now (log .entry)) (now (work .entry)))) r (memoryOf (now (route .exit)) (now (log .exit)) (now (work .exit))) ⌝ }
 {
     let house = schedule::house();
-    let factors = schedule::in_force(schedule, &house);
+    let in_force = schedule::in_force(schedule, &house);
     let q = Query {
         start,
         goal,
@@ -51,11 +51,11 @@ pub fn plan(
         route: route.len(),
         work: work.len(),
     };
-    match admission::decide(bytes, q, anchor, guides, factors, lengths) {
+    match admission::decide(bytes, q, anchor, guides, in_force, lengths) {
         Verdict::Refused(n, p) => Answer::Refused(n, p),
         Verdict::Admitted(vertices, edges, at) => {
             let z = Size { vertices, edges };
-            answers::answer(bytes, anchor, guides, factors, z, q, at, route, log, work)
+            answers::answer(bytes, anchor, guides, in_force, z, q, at, route, log, work)
         }
     }
 }

@@ -1,7 +1,5 @@
 -- `plan` meets its contract: refused as it must be, or answered as defined, with the guarantee.
-use mathlib.Core.Path.{sym, _∙_}
-use Rattle.planner.specs.Plan.{memoryOf, callOf}
-use Rattle.planner.proofs.Handed.{picked, asks-here, planned-refused, lent-is, lent-here, planned}
+use Rattle.planner.proofs.Handed.{picked-some, planned-refused, lent-here, planned}
 use borrow.Author.Needs.{needs}
 use Rattle.planner.proofs.plan.Statement.{statement}
 use Rattle.planner.proofs.plan.Tie as tie
@@ -16,7 +14,7 @@ in-force-requires : tie.Need-in-force-requires
 in-force-requires c κs = search needs
 
 decide-requires : tie.Need-decide-requires
-decide-requires c κs = search needs
+decide-requires c κs = picked-some _ _ _ (c .in-force .ensures) (c .before .before .house .ensures)
 
 enum-known-n : tie.Need-enum-known-n
 enum-known-n c = search needs
@@ -27,18 +25,12 @@ enum-known-vertices c = search needs
 answer-requires : tie.Need-answer-requires
 answer-requires c κs =
     let k = c .before .before .before .before .before .before in
-    let a = k .before .before .before .before .before .before .before .before .before .before .before .args in
-    let d = callOf (a .bytes .now) (a .start) (a .goal) (a .anchor .now) (a .guides .now) (a .guide-count) (a .schedule .now) (a .budget) (memoryOf (a .route .now) (a .log .now) (a .work .now)) in
-    let s = picked d _ _ (k .before .in-force .ensures) (k .before .before .before .house .ensures) in
-    lent-here d _ s _ _ _ _ (k .decide .ensures .decided d (asks-here d _ s)) (c .before .before .before .before .vertices .given .1)
+    lent-here _ _ _ _ _ _ _ _ _ _ _ (k .before .in-force .ensures) (k .before .before .before .house .ensures) _ (k .decide .ensures) _ _ _ (c .before .before .before .before .vertices .given .1)
 
 returns : tie.Need-returns
 returns c =
     let k = c .before .before .before in
-    let a = k .before .before .before .before .before .before .before .before .before .before .before .args in
-    let d = callOf (a .bytes .now) (a .start) (a .goal) (a .anchor .now) (a .guides .now) (a .guide-count) (a .schedule .now) (a .budget) (memoryOf (a .route .now) (a .log .now) (a .work .now)) in
-    let s = picked d _ _ (k .before .in-force .ensures) (k .before .before .before .house .ensures) in
-    planned-refused d _ _ (sym (k .decide .ensures .decided d (asks-here d _ s)) ∙ c .before .n .given .1)
+    planned-refused _ _ _ _ _ _ _ _ _ _ _ (k .before .in-force .ensures) (k .before .before .before .house .ensures) _ (k .decide .ensures) _ _ (c .before .n .given .1)
 
 same-length : tie.Need-same-length
 same-length c = search needs
@@ -53,10 +45,7 @@ returns-2 : tie.Need-returns-2
 returns-2 c =
     let f = c .before .before .before .before .before .before in
     let k = f .before .before .before .before .before .before .before in
-    let a = k .before .before .before .before .before .before .before .before .before .before .before .args in
-    let d = callOf (a .bytes .now) (a .start) (a .goal) (a .anchor .now) (a .guides .now) (a .guide-count) (a .schedule .now) (a .budget) (memoryOf (a .route .now) (a .log .now) (a .work .now)) in
-    let s = picked d _ _ (k .before .in-force .ensures) (k .before .before .before .house .ensures) in
-    planned d _ _ (f .answer .ensures .answered d (lent-is d _ s _ _ _ _ (k .decide .ensures .decided d (asks-here d _ s)) (f .before .before .before .before .before .vertices .given .1)))
+    planned _ _ _ _ _ _ _ _ _ _ _ (k .before .in-force .ensures) (k .before .before .before .house .ensures) _ (k .decide .ensures) _ _ _ (f .before .before .before .before .before .vertices .given .1) _ _ (f .answer .ensures)
 
 pub plan-spec : {M : Type 1} → statement M
 plan-spec =
