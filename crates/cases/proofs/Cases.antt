@@ -42,6 +42,7 @@ computed = (
     job-C-at-4 = record { says = refl; leaves = refl };
     job-C = record { says = refl; leaves = refl };
     guide-3 = refl;
+    guide-3-says = refl;
     house-schedule = house-schedule;
   },
 )

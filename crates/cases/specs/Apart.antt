@@ -4,9 +4,10 @@ use mathlib.Core.Path.{_≡_}
 use mathlib.Core.List.{List, [], _∷_, _++_, map}
 use lib.ListN.{replicate}
 use Rattle.search.specs.declared.Factors.{Factors}
+use Rattle.search.specs.Job.{Job}
 use Rattle.search.specs.Rounds.{search}
 use Rattle.search.specs.Call.{Call, jobOf}
-use Rattle.search.specs.Outcome.{logWord}
+use Rattle.search.specs.Outcome.{answerOf, figures, logWord}
 use Rattle.search.specs.Guarantee.{withPick}
 use Rattle.cases.specs.Cases.{HandsOver, routed, unfinishedAfter, unset, old}
 
@@ -27,6 +28,10 @@ jobB =
       budget = 100;
       memory = record { route = replicate 6 old; log = replicate 7 old; work = replicate 45 old };
     }
+
+-- the same job, where guide 3 has every turn
+abbrev pub jobB3 : Job
+jobB3 = withPick (λ s. 3) (jobOf jobB)
 
 -- lanes 0 to 1 at 3, 0 to 2 at 0, 1 to 3 at 0, 2 to 1 at 1, 3 to 4 at 2; from 0 to 4, no guides, with this allowance
 abbrev pub jobC : ℕ → Call
@@ -113,7 +118,8 @@ pub record Apart : Type 0 where
             workC (0 ∷ 0 ∷ unset ∷ 0 ∷ []) (1 ∷ 1 ∷ 2 ∷ 2 ∷ []) (0 ∷ 0 ∷ 0 ∷ 0 ∷ []) (1 ∷ 1 ∷ 1 ∷ 2 ∷ [])
             (3 ∷ unset ∷ 3 ∷ 4 ∷ []);
       })
-  -- under another rule, guide 3 having every turn, job B has other turns: what `AnyRule` speaks of
-  pub guide-3 : map logWord (search (withPick (λ s. 3) (jobOf jobB)) 100 .history) ≡ 196608 ∷ 196609 ∷ 196611 ∷ 196613 ∷ 196611 ∷ 2 ∷ []
+  -- under another rule for whose turn it is, what `AnyRule` speaks of, job B has other turns
+  pub guide-3 : map logWord (search jobB3 100 .history) ≡ 196608 ∷ 196609 ∷ 196611 ∷ 196613 ∷ 196611 ∷ 2 ∷ []
+  pub guide-3-says : figures (answerOf jobB3 (search jobB3 100 .final)) ≡ routed 4 5 2 6 10000
   -- an empty schedule means the house schedule
   pub house-schedule : (c : Call) → c .schedule ≡ [] → jobOf c .schedule ≡ houseRounds

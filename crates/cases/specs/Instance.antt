@@ -1,4 +1,4 @@
--- One instance of the guarantee: job A. Proved in proofs/Instance.antt.
+-- Instances of the guarantee: job A, and job B under another rule for whose turn it is. Proved in proofs/Instance.antt.
 use Prim.Native.Nat.{ℕ, _*_, _≤_}
 use mathlib.Core.Path.{_≡_}
 use mathlib.Core.List.{List, [], _∷_}
@@ -7,8 +7,9 @@ use Rattle.graph.specs.Lists.{none}
 use Rattle.search.specs.Walk.{Walk}
 use Rattle.search.specs.Call.{faultOf, jobOf}
 use Rattle.search.specs.Outcome.{outcome, answer, memoryAfter}
-use Rattle.search.specs.Guarantee.{Guarantee}
+use Rattle.search.specs.Guarantee.{Joins, Guarantee}
 use Rattle.cases.specs.Cases.{jobA}
+use Rattle.cases.specs.Apart.{jobB3}
 
 abbrev pub edge : ℕ → ℕ → ℕ → Edge
 edge tail head cost = record { tail = tail; head = head; cost = cost }
@@ -24,3 +25,5 @@ pub record Instance : Type 0 where
   pub guarantee : Guarantee (jobOf (jobA 100)) 100 (outcome (jobA 100)) (answer (jobA 100)) (memoryAfter (jobA 100))
   -- and says of the kept cost, 6, and every chain from 0 to 3
   pub bounded : (r : List ℕ) (n : ℕ) → Walk edgesA 0 3 r n → 10000 * 6 ≤ 10000 * n
+  -- so it does of job B where guide 3 has every turn, whose kept cost is 4
+  pub any-rule : (r : List ℕ) (n : ℕ) → Joins jobB3 r n → 10000 * 4 ≤ 10000 * n

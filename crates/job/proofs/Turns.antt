@@ -28,6 +28,10 @@ module _ (s : List ℕ) (f : Front) (v : ℕ) (h : jobRead s ≡ Accepted f v) w
   abbrev c : Call
   c = callAsked s f v
 
+  log-lent : length (c .memory .log) ≡ logSize
+  unfolding callAsked callWith zeros
+  log-lent = length-replicate {A = ℕ} logSize 0
+
   module _ (e : faultOf c ≡ none) where
     abbrev history : List Moment
     history = outcome c .history
@@ -47,26 +51,23 @@ module _ (s : List ℕ) (f : Front) (v : ℕ) (h : jobRead s ≡ Accepted f v) w
         let same : y .size ≡ v = cc in
         rw (y .plan) (omega (arith, r .vertices))
 
-    turns-held : length history ≤ logSize
+    turns-held : length history ≤ length (c .memory .log)
     turns-held =
         omega (
           arith,
+          log-lent,
           turns-few c e,
           mul-le-mul-left (2 * jobOf c .size) (rounds-few c e),
           vertices-few,
         )
 
-    log-long : length log ≡ logSize
-    unfolding callAsked callWith zeros
-    log-long = guaranteed c .lengths .1 ∙ length-replicate {A = ℕ} logSize 0
-
     all-shown : turns (figures (answer c)) log ≡ turnLines (map logWord history)
     unfolding turns
     all-shown =
         ap (λ (n : ℕ). turnLines (take n log)) (holds .turns) ∙ ap turnLines (holds .logged)
-        ∙ ap turnLines (take-all (length log) (map logWord history) (omega (arith, turns-held, log-long, length-map history logWord)))
+        ∙ ap turnLines (take-all (length log) (map logWord history) (omega (arith, turns-held, guaranteed c .lengths .1, length-map history logWord)))
 
-  few-by : (d : Fault) → faultOf c ≡ d → figures (answerIn c d) .turns ≤ logSize
+  few-by : (d : Fault) → faultOf c ≡ d → figures (answerIn c d) .turns ≤ length (c .memory .log)
   unfolding answerIn figures answer
   few-by none e = omega (arith, rw e at (holds e .turns), turns-held e)
   few-by (fault n p) e = omega arith

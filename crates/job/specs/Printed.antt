@@ -2,7 +2,7 @@
 use Prim.Native.Nat.{ℕ, _≤_}
 use mathlib.Core.Path.{_≡_}
 use mathlib.Core.List.{List, _++_, map}
-use lib.ListN.{take}
+use lib.ListN.{length, take}
 use Rattle.text.specs.Text.{turnLines, routeLine, endLine, noRouteLine, unfinishedLine, refusedLine}
 use Rattle.graph.specs.Lists.{none}
 use Rattle.search.specs.Call.{Call, faultOf}
@@ -10,7 +10,7 @@ use Rattle.search.specs.Outcome.{Ending, route, noRoute, unfinished, refused, F
 use Rattle.job.specs.declared.JobRead.{JobRead}
 use Rattle.job.specs.declared.JobRead.the-variants.{Accepted, Refused}
 use Rattle.job.specs.Reading.{jobRead}
-use Rattle.job.specs.Asked.{logSize, callAsked}
+use Rattle.job.specs.Asked.{callAsked}
 
 -- the turns that log memory shows
 unfoldable pub turns : Figures → List ℕ → List ℕ
@@ -41,5 +41,5 @@ benchText s = textOf s (jobRead s)
 
 -- the turn lines are those of every turn of the call: the log holds them all. Proved of accepted jobs in proofs/Turns.antt
 pub record EveryTurn (c : Call) : Type 0 where
-  pub held : figures (answer c) .turns ≤ logSize
+  pub held : figures (answer c) .turns ≤ length (c .memory .log)
   pub shown : faultOf c ≡ none → turns (figures (answer c)) (memoryAfter c .log) ≡ turnLines (map logWord (outcome c .history))

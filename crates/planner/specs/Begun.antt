@@ -1,4 +1,4 @@
--- The search at first, from lent memory on: for the contract of a function inside the planner call, nothing that a reader must believe.
+-- The search at first, from lent memory on: for the contract of a stage of the planner call, nothing that a reader must believe.
 use Prim.Native.Nat.{ℕ}
 use mathlib.Core.Path.{_≡_}
 use mathlib.Core.List.{List}

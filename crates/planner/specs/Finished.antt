@@ -1,4 +1,4 @@
--- The search at its end, as its answer: for the contracts of functions inside the planner call, nothing that a reader must believe.
+-- The search at its end, as its answer: for the contracts of a stage of the planner call, nothing that a reader must believe.
 use Prim.Native.Nat.{ℕ, _-_, _*_, _≤_, _<_}
 use mathlib.Core.Path.{_≡_}
 use mathlib.Core.Bool.{cond}

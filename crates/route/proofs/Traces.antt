@@ -151,9 +151,6 @@ module _ (z : Size) (w : List ℕ) (start goal : ℕ) where
     unfolding measured
     counted = ap (λ (x : Traced). x .length) (k .is)
 
-    pub tracing-most : t .length ≤ z .vertices
-    tracing-most = omega (arith, counted, k .room, k .more)
-
     pub tracing-more : (t′ : Traced) → t .length < z .vertices → t .first ≢ start
         → t′ ≡ extended (graphOf z w) (predOf z w (t .first)) t → Payable t′ → Tracing t′
     tracing-more t′ h ne e p =

@@ -16,7 +16,7 @@ use Rattle.workspace.specs.declared.Size.{Size}
 use Rattle.workspace.specs.Layout.{base, Words, mem, WorkRoom, Room, verticesOf, written, firstOf, edgeAt, edgesRun, edgesAt, edgesUnder, graphOf, graphWords, Loaded, Ready, Becomes}
 use Rattle.workspace.specs.Holds.{Rising, then, Holds}
 use Rattle.workspace.proofs.Firsts.{passes-rising, below-none, below-all, below-rise, below-most, tail-at, length-firsts, length-graph}
-use Rattle.workspace.proofs.Written.{length-written, verticesOf-written, written-written, ready-loaded, graphOf-written}
+use Rattle.workspace.proofs.Written.{verticesOf-written, written-written, ready-loaded, graphOf-written}
 
 -- the edges of an accepted plan rise
 pub accepted-rising : (s : List ℕ) (v : ℕ) (es : List Edge) → decode s ≡ accepted v es → Rising v 0 es
@@ -217,14 +217,6 @@ module _ (z : Size) (es : List Edge) (st : List Vertex) (old m : Words) (h : Hol
 
   pub holds-ready : Ready z m
   holds-ready = rw as-written (ready-loaded z loaded loaded-room loaded-graph st (h .vertices))
-
-  pub holds-length : length (m .work) ≡ length (old .work)
-  unfolding over
-  holds-length =
-      let g : List ℕ = graphWords (z .vertices) es in
-      ap (λ (x : Words). length (x .work)) as-written
-      ∙ length-written z loaded loaded-room st (h .vertices)
-      ∙ omega (arith, length-append g (drop (length g) (old .work)), length-drop (length g) (old .work), graph-length z es old (h .edges), h .room .work)
 
   -- other vertices written
   pub holds-written : (su : List Vertex) (m′ : Words) → length su ≡ z .vertices → Becomes z su m m′ → Holds z es su old m′

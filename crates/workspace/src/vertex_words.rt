@@ -1,4 +1,4 @@
-// Vertices loaded from work memory and stored in it.
+// Vertices loaded from work memory and stored in it; predecessors read alone.
 ghost use mathlib.Core.Path.{_≡_};
 ghost use Prim.Native.Nat.{_<_};
 ghost use lib.ListN.{set};
