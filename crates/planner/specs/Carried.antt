@@ -47,20 +47,23 @@ pub record Stands (c : Call) (z : Size) (y : Stand) (r : Standing) (m : Memory) 
 
 -- ---- a round's end, where `left` rounds were not finished
 
+abbrev pub roundsLeft : Call → State → ℕ
+roundsLeft c s = length (jobOf c .schedule) - s .progress .rounds
+
 -- what it asks
 pub record RoundOver (z : Size) (q : Query) (left : ℕ) (p : Progress) (m : Memory) : Type 0 where
   pub call : Call
   pub state : State
   pub asking : Asking call z q
   pub carries : Carries call z state p m
-  pub left-is : left ≡ length (jobOf call .schedule) - state .progress .rounds
+  pub left-is : left ≡ roundsLeft call state
   pub more : state .progress .rounds < length (jobOf call .schedule)
   pub finished : step (jobOf call) state ≡ Finished
 
 -- what it does, whatever the call and the state are
 pub record RoundEnds (z : Size) (q : Query) (left : ℕ) (p : Progress) (m : Memory) (r : Progress) (m′ : Memory) : Type 0 where
   pub ends :
-      (c : Call) (s : State) → Asking c z q → Carries c z s p m → left ≡ length (jobOf c .schedule) - s .progress .rounds →
+      (c : Call) (s : State) → Asking c z q → Carries c z s p m → left ≡ roundsLeft c s →
       s .progress .rounds < length (jobOf c .schedule) → step (jobOf c) s ≡ Finished → Carries c z (endRound (jobOf c) s) r m′
 
 -- ---- step 1, again and again
@@ -72,9 +75,9 @@ pub record Settling (z : Size) (q : Query) (anchor schedule : List ℕ) (left : 
   pub anchor-is : anchor ≡ call .anchor
   pub schedule-is : schedule ≡ scheduleOf call
   pub carries : Carries call z state p m
-  pub left-is : left ≡ length (jobOf call .schedule) - state .progress .rounds
+  pub left-is : left ≡ roundsLeft call state
 
 pub record Settles (z : Size) (q : Query) (anchor schedule : List ℕ) (left : ℕ) (p : Progress) (m : Memory) (r : Standing) (m′ : Memory) : Type 0 where
   pub settles :
       (c : Call) (s : State) → Asking c z q → anchor ≡ c .anchor → schedule ≡ scheduleOf c → Carries c z s p m →
-      left ≡ length (jobOf c .schedule) - s .progress .rounds → Stands c z (settle (jobOf c) left s) r m′
+      left ≡ roundsLeft c s → Stands c z (settle (jobOf c) left s) r m′
