@@ -1,13 +1,13 @@
 -- Laws of first edge numbers, where the tails of the edges rise: which edges lie under a tail. How many words a graph has.
 use mathlib.Core.Path.{_≡_, refl, ap, _∙_}
-use mathlib.Core.List.{List, [], _∷_, _++_, map}
+use mathlib.Core.List.{List, [], _∷_, _++_, map, append-assoc}
 use Prim.Native.Nat.{ℕ, zero, suc, _+_, _*_, _≤_, _<_}
 use native.Mathlib.Nat.{not-suc-le-zero}
 use native.Mathlib.Omega.{arith}
 use borrow.Author.Tests.{lt-ltb, le-ltb}
 use lib.ListN.{length, getD, length-append, length-map}
 use Rattle.graph.specs.declared.Edge.{Edge}
-use Rattle.graph.specs.Lists.{none, headOf, costOf, edgeRows, edgesFault}
+use Rattle.graph.specs.Lists.{none, headOf, costOf, classOf, edgeRows, edgesFault}
 use Rattle.graph.proofs.Rows.{Passes}
 use Rattle.graph.proofs.OneEdge.{passes-from, passes-within}
 use Rattle.graph.proofs.Plan.{edge-clear}
@@ -21,8 +21,7 @@ pub passes-rising : (v t l i : ℕ) (es : List Edge) → edgesFault v t l i es �
 passes-rising v t l i [] h = end
 passes-rising v t l i (e ∷ es) h =
     let q : Passes (edgeRows v t l e) × (edgesFault v (e .tail) (e .head + 1) (suc i) es ≡ none) = edge-clear v t l i e es h in
-    then (passes-from v t l e (q .0) .rising) (passes-within v t l e (q .0) .tail) (passes-within v t l e (q .0) .head)
-    (passes-rising v (e .tail) (e .head + 1) (suc i) es (q .1))
+    then (passes-from v t l e (q .0) .rising) (passes-within v t l e (q .0)) (passes-rising v (e .tail) (e .head + 1) (suc i) es (q .1))
 
 -- ---- the count of edges below a tail
 
@@ -38,12 +37,12 @@ module _ (t : ℕ) (e : Edge) (es : List Edge) where
 pub below-none : {v p : ℕ} (t : ℕ) (es : List Edge) → Rising v p es → t ≤ p → edgesBelow t es ≡ 0
 unfolding edgesBelow
 below-none t [] r h = refl
-below-none t (e ∷ es) (then a b c r) h = below-no t e es (omega arith) ∙ below-none t es r (omega arith)
+below-none t (e ∷ es) (then a b r) h = below-no t e es (omega arith) ∙ below-none t es r (omega arith)
 
 pub below-all : {v p : ℕ} (es : List Edge) → Rising v p es → edgesBelow v es ≡ length es
 unfolding edgesBelow
 below-all [] r = refl
-below-all {v} (e ∷ es) (then a b c r) = below-yes v e es b ∙ ap suc (below-all es r)
+below-all {v} (e ∷ es) (then a b r) = below-yes v e es (b .tail) ∙ ap suc (below-all es r)
 
 pub below-rise : (t : ℕ) (es : List Edge) → edgesBelow t es ≤ edgesBelow (suc t) es
 unfolding edgesBelow
@@ -68,11 +67,11 @@ pub tail-at :
     getD es i d .tail ≡ t
 unfolding edgesBelow
 tail-at t [] i d r a b = absurd (not-suc-le-zero b)
-tail-at t (e ∷ es) zero d (then k l m r) a b =
+tail-at t (e ∷ es) zero d (then k l r) a b =
     le-cases (suc t) (e .tail)
     (λ (h : suc t ≤ e .tail). absurd (omega (arith, b, below-no (suc t) e es h, below-none (suc t) es r h)))
     (λ (h : e .tail < suc t). le-cases t (e .tail) (λ q. omega arith) (λ q. absurd (omega (arith, a, below-yes t e es q))))
-tail-at t (e ∷ es) (suc i) d (then k l m r) a b =
+tail-at t (e ∷ es) (suc i) d (then k l r) a b =
     le-cases (suc t) (e .tail)
     (λ (h : suc t ≤ e .tail). absurd (omega (arith, b, below-no (suc t) e es h, below-none (suc t) es r h)))
     (λ (h : e .tail < suc t).
@@ -88,8 +87,28 @@ unfolding firstEdges
 length-firsts zero t es = refl
 length-firsts (suc n) t es = ap suc (length-firsts n (suc t) es)
 
-pub length-graph : (v : ℕ) (es : List Edge) → length (graphWords v es) ≡ v + 1 + 2 * length es
+pub length-graph : (v : ℕ) (es : List Edge) → length (graphWords v es) ≡ v + 1 + 3 * length es
 unfolding graphWords
 length-graph v es =
-    length-append (firstEdges (suc v) 0 es) (map headOf es ++ map costOf es)
-    ∙ omega (arith, length-firsts (suc v) 0 es, length-append (map headOf es) (map costOf es), length-map es headOf, length-map es costOf)
+    length-append (firstEdges (suc v) 0 es) (map headOf es ++ (map costOf es ++ map classOf es))
+    ∙ omega (
+      arith,
+      length-firsts (suc v) 0 es,
+      length-append (map headOf es) (map costOf es ++ map classOf es),
+      length-append (map costOf es) (map classOf es),
+      length-map es headOf,
+      length-map es costOf,
+      length-map es classOf,
+    )
+
+-- ---- in columns
+
+-- first edges, heads, costs, classes, and the words behind them
+abbrev pub columns : List ℕ → List ℕ → List ℕ → List ℕ → List ℕ → List ℕ
+columns f h c k r = f ++ (h ++ (c ++ (k ++ r)))
+
+pub graph-columns :
+    (v : ℕ) (es : List Edge) (r : List ℕ) →
+    graphWords v es ++ r ≡ columns (firstEdges (suc v) 0 es) (map headOf es) (map costOf es) (map classOf es) r
+unfolding graphWords
+graph-columns v es r = simp append-assoc

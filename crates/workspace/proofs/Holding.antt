@@ -8,14 +8,16 @@ use lib.ListN.{length, getD, take, drop, length-append, length-drop, length-map,
 use lib.Seq.{take-at, drop-at, drop-drop, drop-cons, getD-append-add}
 use Rattle.graph.specs.declared.Edge.{Edge}
 use Rattle.graph.specs.Plan.{accepted, decode}
-use Rattle.graph.specs.Lists.{headOf, costOf, over}
+use Rattle.graph.specs.Limits.{maxClass}
+use Rattle.graph.specs.Lists.{headOf, costOf, classOf, over}
+use Rattle.graph.specs.OneForm.{EdgeWithin}
 use Rattle.graph.proofs.Plan.{whole}
 use Rattle.search.specs.declared.Vertex.{Vertex}
 use Rattle.search.specs.Outcome.{edgesBelow, firstEdges, vertexWords, workWords}
 use Rattle.workspace.specs.declared.Size.{Size}
 use Rattle.workspace.specs.Layout.{base, Words, mem, WorkRoom, Room, verticesOf, written, firstOf, edgeAt, edgesRun, edgesAt, edgesUnder, graphOf, graphWords, Loaded, Ready, Becomes}
 use Rattle.workspace.specs.Holds.{Rising, then, Holds}
-use Rattle.workspace.proofs.Firsts.{passes-rising, below-none, below-all, below-rise, below-most, tail-at, length-firsts, length-graph}
+use Rattle.workspace.proofs.Firsts.{passes-rising, below-none, below-all, below-rise, below-most, tail-at, length-firsts, length-graph, graph-columns}
 use Rattle.workspace.proofs.Written.{verticesOf-written, written-written, ready-loaded, graphOf-written}
 
 -- the edges of an accepted plan rise
@@ -38,62 +40,81 @@ getD-right a r n i e = rw (← e) (getD-append-add a r i 0)
 
 -- no edge
 noEdge : Edge
-noEdge = record { tail = 0; head = 0; cost = 0 }
+noEdge = record { tail = 0; head = 0; cost = 0; class = 0 }
 
-tail-is : (e : Edge) (t : ℕ) → e .tail ≡ t → _≡_ {A = Edge} (record { tail = t; head = e .head; cost = e .cost }) e
+tail-is : (e : Edge) (t : ℕ) → e .tail ≡ t → _≡_ {A = Edge} (record { tail = t; head = e .head; cost = e .cost; class = e .class }) e
 tail-is e t q = rw (← q)
 
--- the head of edge j is a vertex
-head-vertex : {v p : ℕ} (es : List Edge) (j : ℕ) (d : Edge) → Rising v p es → j < length es → getD es j d .head < v
-head-vertex [] j d r h = absurd (not-suc-le-zero h)
-head-vertex (e ∷ es) zero d (then a b c r) h = c
-head-vertex (e ∷ es) (suc j) d (then a b c r) h = head-vertex es j d r (le-of-suc-le-suc h)
+-- edge j is within the limits
+edge-within : {v p : ℕ} (es : List Edge) (j : ℕ) (d : Edge) → Rising v p es → j < length es → EdgeWithin v (getD es j d)
+edge-within [] j d r h = absurd (not-suc-le-zero h)
+edge-within (e ∷ es) zero d (then a b r) h = b
+edge-within (e ∷ es) (suc j) d (then a b r) h = edge-within es j d r (le-of-suc-le-suc h)
 
 module _ (z : Size) (es : List Edge) (r : List ℕ) (le : length es ≡ z .edges) (rise : Rising (z .vertices) 0 es) where
   abbrev words : List ℕ
   words = graphWords (z .vertices) es ++ r
 
-  in-columns : words ≡ firstEdges (suc (z .vertices)) 0 es ++ (map headOf es ++ (map costOf es ++ r))
-  unfolding graphWords
-  in-columns =
-      append-assoc (firstEdges (suc (z .vertices)) 0 es) (map headOf es ++ map costOf es) r
-      ∙ ap (λ (l : List ℕ). firstEdges (suc (z .vertices)) 0 es ++ l) (append-assoc (map headOf es) (map costOf es) r)
+  abbrev firsts : List ℕ
+  firsts = firstEdges (suc (z .vertices)) 0 es
 
-  lf : length (firstEdges (suc (z .vertices)) 0 es) ≡ z .vertices + 1
+  -- the words from each column on
+  abbrev fromClasses : List ℕ
+  fromClasses = map classOf es ++ r
+
+  abbrev fromCosts : List ℕ
+  fromCosts = map costOf es ++ fromClasses
+
+  abbrev fromHeads : List ℕ
+  fromHeads = map headOf es ++ fromCosts
+
+  in-columns : words ≡ firsts ++ fromHeads
+  in-columns = graph-columns (z .vertices) es r
+
+  lf : length firsts ≡ z .vertices + 1
   lf = length-firsts (suc (z .vertices)) 0 es ∙ omega arith
+
+  -- behind the first edge numbers
+  behind : (i j : ℕ) → i ≡ z .vertices + 1 + j → getD words i 0 ≡ getD fromHeads j 0
+  behind i j e = ap (λ (l : List ℕ). getD l i 0) in-columns ∙ ap (λ (n : ℕ). getD (firsts ++ fromHeads) n 0) e ∙ getD-right firsts fromHeads (z .vertices + 1) j lf
 
   first-is : (t : ℕ) → t ≤ z .vertices → firstOf words t ≡ edgesBelow t es
   unfolding firstOf
   first-is t h =
       ap (λ (l : List ℕ). getD l t 0) in-columns
-      ∙ List·getD-append (firstEdges (suc (z .vertices)) 0 es) (map headOf es ++ (map costOf es ++ r)) 0 t (omega (arith, lf))
+      ∙ List·getD-append firsts fromHeads 0 t (omega (arith, lf))
       ∙ getD-firsts (suc (z .vertices)) 0 es t (omega arith)
       ∙ ap (λ (k : ℕ). edgesBelow k es) (zero-add t)
 
   head-is : (j : ℕ) → j < z .edges → getD words (z .vertices + 1 + j) 0 ≡ getD es j noEdge .head
   unfolding noEdge
   head-is j h =
-      ap (λ (l : List ℕ). getD l (z .vertices + 1 + j) 0) in-columns
-      ∙ getD-right (firstEdges (suc (z .vertices)) 0 es) (map headOf es ++ (map costOf es ++ r)) (z .vertices + 1) j lf
-      ∙ List·getD-append (map headOf es) (map costOf es ++ r) 0 j (omega (arith, length-map es headOf))
+      behind (z .vertices + 1 + j) j refl
+      ∙ List·getD-append (map headOf es) fromCosts 0 j (omega (arith, length-map es headOf))
       ∙ List·getD-map headOf es j noEdge
 
   cost-is : (j : ℕ) → j < z .edges → getD words (z .vertices + 1 + z .edges + j) 0 ≡ getD es j noEdge .cost
   unfolding noEdge
   cost-is j h =
-      let i : z .vertices + 1 + z .edges + j ≡ z .vertices + 1 + (z .edges + j) = omega arith in
-      ap (λ (l : List ℕ). getD l (z .vertices + 1 + z .edges + j) 0) in-columns
-      ∙ ap (λ (k : ℕ). getD (firstEdges (suc (z .vertices)) 0 es ++ (map headOf es ++ (map costOf es ++ r))) k 0) i
-      ∙ getD-right (firstEdges (suc (z .vertices)) 0 es) (map headOf es ++ (map costOf es ++ r)) (z .vertices + 1) (z .edges + j) lf
-      ∙ getD-right (map headOf es) (map costOf es ++ r) (z .edges) j (length-map es headOf ∙ le)
-      ∙ List·getD-append (map costOf es) r 0 j (omega (arith, length-map es costOf))
+      behind (z .vertices + 1 + z .edges + j) (z .edges + j) (omega arith)
+      ∙ getD-right (map headOf es) fromCosts (z .edges) j (length-map es headOf ∙ le)
+      ∙ List·getD-append (map costOf es) fromClasses 0 j (omega (arith, length-map es costOf))
       ∙ List·getD-map costOf es j noEdge
+
+  class-is : (j : ℕ) → j < z .edges → getD words (z .vertices + 1 + 2 * z .edges + j) 0 ≡ getD es j noEdge .class
+  unfolding noEdge
+  class-is j h =
+      behind (z .vertices + 1 + 2 * z .edges + j) (z .edges + (z .edges + j)) (omega arith)
+      ∙ getD-right (map headOf es) fromCosts (z .edges) (z .edges + j) (length-map es headOf ∙ le)
+      ∙ getD-right (map costOf es) fromClasses (z .edges) j (length-map es costOf ∙ le)
+      ∙ List·getD-append (map classOf es) r 0 j (omega (arith, length-map es classOf))
+      ∙ List·getD-map classOf es j noEdge
 
   edge-is : (t j : ℕ) → edgesBelow t es ≤ j → j < edgesBelow (suc t) es → edgeAt z words t j ≡ getD es j noEdge
   unfolding edgeAt
   edge-is t j a b =
       let l : j < z .edges = omega (arith, below-most (suc t) es) in
-      rw (head-is j l, cost-is j l) (tail-is (getD es j noEdge) t (tail-at t es j noEdge rise a b))
+      rw (head-is j l, cost-is j l, class-is j l) (tail-is (getD es j noEdge) t (tail-at t es j noEdge rise a b))
 
   -- the edges under each tail, and under all
 
@@ -134,18 +155,16 @@ module _ (z : Size) (es : List Edge) (r : List ℕ) (le : length es ≡ z .edges
         room = room;
         rise = λ t h. rw (first-is t (omega arith), first-is (suc t) h) (below-rise t es);
         ends = λ t h. rw (first-is (suc t) h) (omega (arith, below-most (suc t) es));
-        heads = λ t j h. rw (head-is j h) (head-vertex es j noEdge rise (omega arith));
+        heads = λ t j h. rw (head-is j h) (edge-within es j noEdge rise (omega arith) .head);
+        classes = λ t j h. rw (class-is j h) (edge-within es j noEdge rise (omega arith) .class);
       }
 
 -- ---- what work memory holds
 
 -- the vertices follow the graph
 work-words : (v : ℕ) (es : List Edge) (st : List Vertex) → workWords v es st ≡ graphWords v es ++ vertexWords st
-unfolding workWords graphWords
-work-words v es st =
-    sym
-    (append-assoc (firstEdges (suc v) 0 es) (map headOf es ++ map costOf es) (vertexWords st)
-    ∙ ap (λ (l : List ℕ). firstEdges (suc v) 0 es ++ l) (append-assoc (map headOf es) (map costOf es) (vertexWords st)))
+unfolding workWords
+work-words v es st = sym (graph-columns v es (vertexWords st))
 
 -- a graph over the words of memory
 abbrev pub withGraph : Size → List Edge → Words → Words
@@ -154,7 +173,7 @@ withGraph z es old = mem (over (graphWords (z .vertices) es) (old .work))
 module _ (z : Size) (es : List Edge) (old : Words) (le : length es ≡ z .edges) where
   graph-length : length (graphWords (z .vertices) es) ≡ base z
   unfolding base
-  graph-length = length-graph (z .vertices) es ∙ ap (λ (k : ℕ). z .vertices + 1 + 2 * k) le
+  graph-length = length-graph (z .vertices) es ∙ ap (λ (k : ℕ). z .vertices + 1 + 3 * k) le
 
   -- vertices over a graph over the words
   work-written : (st : List Vertex) → written z st (withGraph z es old) .work ≡ over (workWords (z .vertices) es st) (old .work)

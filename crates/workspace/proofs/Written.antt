@@ -65,7 +65,12 @@ module _ (z : Size) (m : Words) where
 
     pub edge-written : (t j : ℕ) → j < z .edges → edgeAt z (written z st m .work) t j ≡ edgeAt z (m .work) t j
     unfolding edgeAt base
-    edge-written t j h = rw (getD-written (z .vertices + 1 + j) (omega arith), getD-written (z .vertices + 1 + z .edges + j) (omega arith))
+    edge-written t j h =
+        rw (
+          getD-written (z .vertices + 1 + j) (omega arith),
+          getD-written (z .vertices + 1 + z .edges + j) (omega arith),
+          getD-written (z .vertices + 1 + 2 * z .edges + j) (omega arith),
+        )
 
     run-written : (t n j : ℕ) → j + n ≤ z .edges → edgesRun z (written z st m .work) t n j ≡ edgesRun z (m .work) t n j
     unfolding edgesRun
@@ -93,6 +98,7 @@ module _ (z : Size) (m : Words) (room : Room z m) (r : Loaded z (m .work)) (st :
               rise = λ t h. rw (first-written z m room st e t (omega arith), first-written z m room st e (suc t) h) (r .rise t h);
               ends = λ t h. rw (first-written z m room st e (suc t) h) (r .ends t h);
               heads = λ t j h. rw (edge-written z m room st e t j h) (r .heads t j h);
+              classes = λ t j h. rw (edge-written z m room st e t j h) (r .classes t j h);
             };
         whole = whole-written z m room st e;
       }

@@ -1,4 +1,4 @@
--- The layout of work memory (V+1 first edge numbers, M heads, M costs, four words for each vertex): for contracts inside the planner call, nothing that a reader must believe.
+-- The layout of work memory (V+1 first edge numbers, M heads, M costs, M classes, four words for each vertex): for contracts inside the planner call, nothing that a reader must believe.
 use Prim.Native.Nat.{ℕ, zero, suc, _+_, _-_, _*_, _/_, _%_, _≤_, _<_}
 use mathlib.Core.Path.{_≡_}
 use mathlib.Core.Bool.{Bool, cond}
@@ -7,7 +7,8 @@ use lib.Dec.{eqb, ltb}
 use lib.ListN.{length, getD, set, take, drop, replicate}
 use lib.Seq.{sets}
 use Rattle.graph.specs.declared.Edge.{Edge}
-use Rattle.graph.specs.Lists.{headOf, costOf, over}
+use Rattle.graph.specs.Limits.{maxClass}
+use Rattle.graph.specs.Lists.{headOf, costOf, classOf, over}
 use Rattle.search.specs.declared.Vertex.{Vertex}
 use Rattle.search.specs.Job.{noPred}
 use Rattle.search.specs.Outcome.{firstEdges, markWord, vertexWords}
@@ -16,7 +17,7 @@ use Rattle.workspace.specs.declared.Size.{Size}
 
 -- the first word of the vertices
 unfoldable pub base : Size → ℕ
-base z = z .vertices + 1 + 2 * z .edges
+base z = z .vertices + 1 + 3 * z .edges
 
 -- lent memory in which vertices lie: work memory alone
 pub record Words : Type 0 where
@@ -86,7 +87,13 @@ firstOf w t = getD w t 0
 
 -- edge j, of the tail t
 unfoldable pub edgeAt : Size → List ℕ → ℕ → ℕ → Edge
-edgeAt z w t j = record { tail = t; head = getD w (z .vertices + 1 + j) 0; cost = getD w (z .vertices + 1 + z .edges + j) 0 }
+edgeAt z w t j =
+    record {
+      tail = t;
+      head = getD w (z .vertices + 1 + j) 0;
+      cost = getD w (z .vertices + 1 + z .edges + j) 0;
+      class = getD w (z .vertices + 1 + 2 * z .edges + j) 0;
+    }
 
 -- n edges of the tail t from edge j on
 unfoldable pub edgesRun : Size → List ℕ → ℕ → ℕ → ℕ → List Edge
@@ -105,14 +112,18 @@ edgesUnder z w (suc n) t = edgesAt z w t ++ edgesUnder z w n (suc t)
 unfoldable pub graphOf : Size → List ℕ → List Edge
 graphOf z w = edgesUnder z w (z .vertices) 0
 
--- the words of a graph: first edges, heads, costs
+-- the words of a graph: first edges, heads, costs, classes
 unfoldable pub graphWords : ℕ → List Edge → List ℕ
-graphWords v es = firstEdges (suc v) 0 es ++ (map headOf es ++ map costOf es)
+graphWords v es = firstEdges (suc v) 0 es ++ (map headOf es ++ (map costOf es ++ map classOf es))
+
+-- the words with head, cost and class of edge j
+unfoldable pub edgePut : Size → ℕ → Edge → List ℕ → List ℕ
+edgePut z j e w =
+    set (set (set w (z .vertices + 1 + j) (e .head)) (z .vertices + 1 + z .edges + j) (e .cost)) (z .vertices + 1 + 2 * z .edges + j) (e .class)
 
 -- the words with edge j, which follows one with the tail `before`: the vertices after that tail, up to its own, begin with edge j
 unfoldable pub withEdge : Size → ℕ → ℕ → Edge → List ℕ → List ℕ
-withEdge z before j e w =
-    set (set (sets w (before + 1) (replicate (e .tail - before) j)) (z .vertices + 1 + j) (e .head)) (z .vertices + 1 + z .edges + j) (e .cost)
+withEdge z before j e w = edgePut z j e (sets w (before + 1) (replicate (e .tail - before) j))
 
 -- ---- what contracts ask
 
@@ -127,6 +138,7 @@ pub record Loaded (z : Size) (w : List ℕ) : Type 0 where
   pub rise : (t : ℕ) → t < z .vertices → firstOf w t ≤ firstOf w (suc t)
   pub ends : (t : ℕ) → t < z .vertices → firstOf w (suc t) ≤ z .edges
   pub heads : (t j : ℕ) → j < z .edges → edgeAt z w t j .head < z .vertices
+  pub classes : (t j : ℕ) → j < z .edges → edgeAt z w t j .class ≤ maxClass
 
 -- memory holds vertices and a graph
 pub record Ready (z : Size) (m : Words) : Type 0 where

@@ -1,8 +1,8 @@
-// The words of edges in work memory, read: the first edge of a vertex, and an edge.
+// The words of edges in work memory: the first edge of a vertex read, and an edge read and put.
 ghost use mathlib.Core.Path.{_≡_};
 ghost use Prim.Native.Nat.{_<_, _≤_};
 ghost use lib.ListN.{length};
-ghost use Rattle.workspace.specs.Layout.{base, firstOf, edgeAt};
+ghost use Rattle.workspace.specs.Layout.{base, firstOf, edgeAt, edgePut};
 use crate::Size;
 use graph::Edge;
 
@@ -23,11 +23,29 @@ pub fn edge(work: &[u32], z: Size, t: u32, j: u32) -> Edge
     let edges = z.edges;
     let h = (vertices as usize) + 1 + (j as usize);
     let c = (vertices as usize) + 1 + (edges as usize) + (j as usize);
+    let k = (vertices as usize) + 1 + 2 * (edges as usize) + (j as usize);
     let head = work[h];
     let cost = work[c];
+    let class = work[k];
     Edge {
         tail: t,
         head,
         cost,
+        class,
     }
+}
+
+// Head, cost and class of edge j.
+pub fn put_edge(work: &mut [u32], z: Size, j: u32, edge: Edge)
+    requires { ⌜ (base z ≤ length (now work)) × (j < z .edges) ⌝ }
+    ensures { λ _. ⌜ now (work .exit) ≡ edgePut z j edge (now (work .entry)) ⌝ }
+{
+    let vertices = z.vertices;
+    let edges = z.edges;
+    let h = (vertices as usize) + 1 + (j as usize);
+    let c = (vertices as usize) + 1 + (edges as usize) + (j as usize);
+    let k = (vertices as usize) + 1 + 2 * (edges as usize) + (j as usize);
+    work[h] = edge.head;
+    work[c] = edge.cost;
+    work[k] = edge.class;
 }

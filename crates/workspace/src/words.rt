@@ -27,7 +27,7 @@ pub fn base(z: Size) -> usize
 {
     let vertices = z.vertices;
     let edges = z.edges;
-    (vertices as usize) + 1 + 2 * (edges as usize)
+    (vertices as usize) + 1 + 3 * (edges as usize)
 }
 
 // Stores vertex p over any words.

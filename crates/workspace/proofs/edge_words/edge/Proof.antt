@@ -29,6 +29,24 @@ add-c-2 c = search needs
 add-c-3 : tie.Need-add-c-3
 add-c-3 c = search needs
 
+cast-k : tie.Need-cast-k
+cast-k c = search needs
+
+add-k : tie.Need-add-k
+add-k c = search needs
+
+cast-k-2 : tie.Need-cast-k-2
+cast-k-2 c = search needs
+
+mul-k : tie.Need-mul-k
+mul-k c = search needs
+
+add-k-2 : tie.Need-add-k-2
+add-k-2 c = search needs
+
+add-k-3 : tie.Need-add-k-3
+add-k-3 c = search needs
+
 mul-head : tie.Need-mul-head
 mul-head c = search needs
 
@@ -42,6 +60,13 @@ mul-cost c = search needs
 shared-slice-read-cost : tie.Need-shared-slice-read-cost
 unfolding base
 shared-slice-read-cost c = omega arith
+
+mul-class : tie.Need-mul-class
+mul-class c = search needs
+
+shared-slice-read-class : tie.Need-shared-slice-read-class
+unfolding base
+shared-slice-read-class c = omega arith
 
 returns : tie.Need-returns
 unfolding edgeAt
@@ -59,8 +84,16 @@ edge-spec =
     cast-c-2
     add-c-2
     add-c-3
+    cast-k
+    add-k
+    cast-k-2
+    mul-k
+    add-k-2
+    add-k-3
     mul-head
     shared-slice-read-head
     mul-cost
     shared-slice-read-cost
+    mul-class
+    shared-slice-read-class
     returns)
