@@ -77,7 +77,8 @@ firsts-are v j p [] f r h l =
     let d : drop (p + 1 + (v - p)) f ≡ [] = drop-of-length-le f {i = p + 1 + (v - p)} (omega arith) in
     sets-run (p + 1) (v - p) j f (omega arith)
     ∙ rw (d, append-nil, none-below j (v - p) (suc p))
-firsts-are v j p (e ∷ es) f (then a b c r) h l =
+firsts-are v j p (e ∷ es) f (then a b r) h l =
+    let bt : e .tail < v = b .tail in
     let n : ℕ = e .tail - p in
     let g : List ℕ = sets f (p + 1) (replicate n j) in
     let lg : length g ≡ suc v = length-sets f (p + 1) (replicate n j) ∙ l in
@@ -98,6 +99,6 @@ firsts-are v j p (e ∷ es) f (then a b c r) h l =
     split-counts n whole from =
         ap (λ (k : ℕ). countsFrom j k (suc p) (e ∷ es)) (sym whole)
         ∙ counts-append j n (v - e .tail) (suc p) (e ∷ es)
-        ∙ ap (λ (x : List ℕ). x ++ countsFrom j (v - e .tail) (suc p + n) (e ∷ es)) (counts-low j n (suc p) (e ∷ es) (then (le-refl (e .tail)) b c r) (omega arith))
+        ∙ ap (λ (x : List ℕ). x ++ countsFrom j (v - e .tail) (suc p + n) (e ∷ es)) (counts-low j n (suc p) (e ∷ es) (then (le-refl (e .tail)) b r) (omega arith))
         ∙ ap (λ (k : ℕ). replicate n j ++ countsFrom j (v - e .tail) k (e ∷ es)) from
         ∙ ap (λ (x : List ℕ). replicate n j ++ x) (counts-high j (v - e .tail) (suc (e .tail)) e es (omega arith))

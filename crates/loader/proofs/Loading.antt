@@ -12,17 +12,17 @@ use Rattle.graph.specs.declared.EdgeRead.{EdgeRead}
 use Rattle.graph.specs.declared.EdgeRead.the-variants.{Next, Refused}
 use Rattle.graph.specs.declared.PlanRead.the-variants.{Sizes}
 use Rattle.graph.specs.Plan.{accepted, firstAt, past, nextEdge, edgesFrom, sizes}
-use Rattle.graph.specs.Lists.{headOf, costOf, over, edgesIn}
+use Rattle.graph.specs.Lists.{headOf, costOf, classOf, over, edgesIn}
 use Rattle.plan_check.specs.Past.{cursorPast}
 use Rattle.graph.proofs.OneEdge.{Read, read-edge, edge-passes, passes-within}
 use Rattle.graph.proofs.Plan.{First, Accepts, accepts}
 use Rattle.plan_check.proofs.Checked.{Stored, stored-none, stored-next, first, cursor-next, sized-by}
 use Rattle.search.specs.Outcome.{firstEdges}
 use Rattle.workspace.specs.declared.Size.{Size}
-use Rattle.workspace.specs.Layout.{base, graphWords, withEdge}
+use Rattle.workspace.specs.Layout.{base, graphWords, edgePut, withEdge}
 use Rattle.workspace.specs.Holds.{Rising, end, then}
 use Rattle.workspace.proofs.Written.{set-after}
-use Rattle.workspace.proofs.Firsts.{passes-rising, below-none, length-graph}
+use Rattle.workspace.proofs.Firsts.{passes-rising, below-none, length-graph, columns, graph-columns}
 use Rattle.loader.specs.Stored.{edgeStored}
 use Rattle.loader.proofs.Counts.{counts-first, firstsFrom, firsts-are}
 
@@ -50,14 +50,13 @@ module _ (z : Size) (j : ℕ) (w : List ℕ) (c : Cursor) (r : EdgeRead) where
   loaded-none n p q = (rw q, rw q)
 
   pub loaded-one :
-      (e : Edge) (c′ : Cursor) (f : List ℕ) → r ≡ Next e c′ → f ≡ sets w (c .tail + 1) (replicate (e .tail + 1 - (c .tail + 1)) j) →
-      (c′ ≡ cursorPast c r)
-      × (set (set f (z .vertices + 1 + j) (e .head)) (z .vertices + 1 + z .edges + j) (e .cost) ≡ edgeStored z (c .tail) j w r)
+      (e : Edge) (c′ : Cursor) (f w′ : List ℕ) → r ≡ Next e c′ → f ≡ sets w (c .tail + 1) (replicate (e .tail + 1 - (c .tail + 1)) j) →
+      w′ ≡ edgePut z j e f → (c′ ≡ cursorPast c r) × (w′ ≡ edgeStored z (c .tail) j w r)
   unfolding cursorPast edgeStored withEdge
-  loaded-one e c′ f q g = let n : e .tail + 1 - (c .tail + 1) ≡ e .tail - c .tail = omega arith in (rw q, rw (q, g, n))
+  loaded-one e c′ f w′ q g k = let n : e .tail + 1 - (c .tail + 1) ≡ e .tail - c .tail = omega arith in (rw q, rw (q, k, g, n))
 
 length-with : (z : Size) (p j : ℕ) (e : Edge) (w : List ℕ) → length (withEdge z p j e w) ≡ length w
-unfolding withEdge
+unfolding withEdge edgePut
 length-with z p j e w = simp (length-set, length-sets)
 
 -- ---- all edges, as the loader stores them: after the tail p, from edge j on
@@ -75,46 +74,82 @@ sets-left (v ∷ vs) a r i h =
 set-right : (a r : List ℕ) (n i v : ℕ) → length a ≡ n → set (a ++ r) (n + i) v ≡ a ++ set r i v
 set-right a r n i v e = rw (← e) (set-after a r i v)
 
--- first edges, heads, costs, and the words behind them
-module _ (z : Size) (r : List ℕ) where
-  abbrev columns : List ℕ → List ℕ → List ℕ → List ℕ
-  columns f h c = f ++ (h ++ (c ++ r))
+-- a word set in each column
+module _ (n m j : ℕ) (f h c k r : List ℕ) (lf : length f ≡ n) (lh : length h ≡ m) (lc : length c ≡ m) (lk : length k ≡ m) (lj : j < m) where
+  head-column : (x : ℕ) → set (columns f h c k r) (n + j) x ≡ columns f (set h j x) c k r
+  head-column x =
+      set-right f (h ++ (c ++ (k ++ r))) n j x lf ∙ ap (λ (l : List ℕ). f ++ l) (set-append-left h (c ++ (k ++ r)) j x (omega arith))
 
-  module _ (j p : ℕ) (e : Edge) (f h c : List ℕ) (lf : length f ≡ suc (z .vertices)) (lh : length h ≡ z .edges) (lc : length c ≡ z .edges) where
+  cost-column : (x : ℕ) → set (columns f h c k r) (n + (m + j)) x ≡ columns f h (set c j x) k r
+  cost-column x =
+      set-right f (h ++ (c ++ (k ++ r))) n (m + j) x lf
+      ∙ ap (λ (l : List ℕ). f ++ l)
+      (set-right h (c ++ (k ++ r)) m j x lh ∙ ap (λ (l : List ℕ). h ++ l) (set-append-left c (k ++ r) j x (omega arith)))
+
+  class-column : (x : ℕ) → set (columns f h c k r) (n + (m + (m + j))) x ≡ columns f h c (set k j x) r
+  class-column x =
+      set-right f (h ++ (c ++ (k ++ r))) n (m + (m + j)) x lf
+      ∙ ap (λ (l : List ℕ). f ++ l)
+      (set-right h (c ++ (k ++ r)) m (m + j) x lh
+      ∙ ap (λ (l : List ℕ). h ++ l)
+      (set-right c (k ++ r) m j x lc ∙ ap (λ (l : List ℕ). c ++ l) (set-append-left k r j x (omega arith))))
+
+module _ (z : Size) (r : List ℕ) where
+  -- columns of as many words as the graph has
+  record Sized (f h c k : List ℕ) : Type 0 where
+    firsts : length f ≡ suc (z .vertices)
+    heads : length h ≡ z .edges
+    costs : length c ≡ z .edges
+    classes : length k ≡ z .edges
+
+  module _ (j p : ℕ) (e : Edge) (f h c k : List ℕ) (s : Sized f h c k) where
+    -- the first edge numbers after the edge
+    abbrev filled : List ℕ
+    filled = sets f (p + 1) (replicate (e .tail - p) j)
+
+    sized-next : Sized filled (set h j (e .head)) (set c j (e .cost)) (set k j (e .class))
+    sized-next =
+        record {
+          firsts = length-sets f (p + 1) (replicate (e .tail - p) j) ∙ s .firsts;
+          heads = length-set h j (e .head) ∙ s .heads;
+          costs = length-set c j (e .cost) ∙ s .costs;
+          classes = length-set k j (e .class) ∙ s .classes;
+        }
+
     edge-columns :
         j < z .edges → p ≤ z .vertices → e .tail < z .vertices →
-        withEdge z p j e (columns f h c) ≡ columns (sets f (p + 1) (replicate (e .tail - p) j)) (set h j (e .head)) (set c j (e .cost))
-    unfolding withEdge
+        withEdge z p j e (columns f h c k r) ≡ columns filled (set h j (e .head)) (set c j (e .cost)) (set k j (e .class)) r
+    unfolding withEdge edgePut
     edge-columns lj lp lt =
-        let n : ℕ = e .tail - p in
-        let g : List ℕ = sets f (p + 1) (replicate n j) in
-        let lr : length (replicate n j) ≡ n = length-replicate n j in
-        let lg : length g ≡ z .vertices + 1 = length-sets f (p + 1) (replicate n j) ∙ lf ∙ omega arith in
-        let i : z .vertices + 1 + z .edges + j ≡ (z .vertices + 1) + (z .edges + j) = omega arith in
-        let a : sets (columns f h c) (p + 1) (replicate n j) ≡ columns g h c = sets-left (replicate n j) f (h ++ (c ++ r)) (p + 1) (omega arith) in
-        let b : set (columns g h c) (z .vertices + 1 + j) (e .head) ≡ columns g (set h j (e .head)) c =
-        set-right g (h ++ (c ++ r)) (z .vertices + 1) j (e .head) lg
-        ∙ ap (λ (l : List ℕ). g ++ l) (set-append-left h (c ++ r) j (e .head) (omega arith)) in
-        let lh′ : length (set h j (e .head)) ≡ z .edges = length-set h j (e .head) ∙ lh in
-        let d : set (columns g (set h j (e .head)) c) ((z .vertices + 1) + (z .edges + j)) (e .cost) ≡ columns g (set h j (e .head)) (set c j (e .cost)) =
-        set-right g (set h j (e .head) ++ (c ++ r)) (z .vertices + 1) (z .edges + j) (e .cost) lg
-        ∙ ap (λ (l : List ℕ). g ++ l)
-        (set-right (set h j (e .head)) (c ++ r) (z .edges) j (e .cost) lh′
-        ∙ ap (λ (l : List ℕ). set h j (e .head) ++ l) (set-append-left c r j (e .cost) (omega arith))) in
-        rw (a, b, i) d
+        let t : Sized filled (set h j (e .head)) (set c j (e .cost)) (set k j (e .class)) = sized-next in
+        let n : ℕ = z .vertices + 1 in
+        let m : ℕ = z .edges in
+        let lr : length (replicate (e .tail - p) j) ≡ e .tail - p = length-replicate (e .tail - p) j in
+        let lg : length filled ≡ n = t .firsts ∙ omega arith in
+        let x : n + m + j ≡ n + (m + j) = omega arith in
+        let y : n + 2 * m + j ≡ n + (m + (m + j)) = omega arith in
+        let a : sets (columns f h c k r) (p + 1) (replicate (e .tail - p) j) ≡ columns filled h c k r =
+        sets-left (replicate (e .tail - p) j) f (h ++ (c ++ (k ++ r))) (p + 1) (omega (arith, s .firsts)) in
+        rw (
+          a,
+          head-column n m j filled h c k r lg (s .heads) (s .costs) (s .classes) lj (e .head),
+          x,
+          cost-column n m j filled (set h j (e .head)) c k r lg (t .heads) (s .costs) (s .classes) lj (e .cost),
+          y,
+          class-column n m j filled (set h j (e .head)) (set c j (e .cost)) k r lg (t .heads) (t .costs) (s .classes) lj (e .class),
+        )
 
   load-columns :
-      (j p : ℕ) (es : List Edge) (f h c : List ℕ) → length f ≡ suc (z .vertices) → length h ≡ z .edges → length c ≡ z .edges →
-      j + length es ≤ z .edges → p ≤ z .vertices → Rising (z .vertices) p es →
-      loadFrom z j p es (columns f h c) ≡ columns (firstsFrom (z .vertices) j p es f) (sets h j (map headOf es)) (sets c j (map costOf es))
+      (j p : ℕ) (es : List Edge) (f h c k : List ℕ) → Sized f h c k → j + length es ≤ z .edges → p ≤ z .vertices → Rising (z .vertices) p es →
+      loadFrom z j p es (columns f h c k r)
+      ≡ columns (firstsFrom (z .vertices) j p es f) (sets h j (map headOf es)) (sets c j (map costOf es)) (sets k j (map classOf es)) r
   unfolding loadFrom firstsFrom
-  load-columns j p [] f h c lf lh lc room lp (end) =
-      sets-left (replicate (z .vertices - p) j) f (h ++ (c ++ r)) (p + 1) (omega (arith, length-replicate (z .vertices - p) j))
-  load-columns j p (e ∷ es) f h c lf lh lc room lp (then a b k s) =
-      ap (loadFrom z (suc j) (e .tail) es) (edge-columns j p e f h c lf lh lc (omega arith) lp b)
-      ∙ load-columns (suc j) (e .tail) es (sets f (p + 1) (replicate (e .tail - p) j)) (set h j (e .head)) (set c j (e .cost))
-      (length-sets f (p + 1) (replicate (e .tail - p) j) ∙ lf) (length-set h j (e .head) ∙ lh) (length-set c j (e .cost) ∙ lc)
-      (omega arith) (omega arith) s
+  load-columns j p [] f h c k s room lp (end) =
+      sets-left (replicate (z .vertices - p) j) f (h ++ (c ++ (k ++ r))) (p + 1) (omega (arith, length-replicate (z .vertices - p) j, s .firsts))
+  load-columns j p (e ∷ es) f h c k s room lp (then a b t) =
+      ap (loadFrom z (suc j) (e .tail) es) (edge-columns j p e f h c k s (omega arith) lp (b .tail))
+      ∙ load-columns (suc j) (e .tail) es (filled j p e f h c k s) (set h j (e .head)) (set c j (e .cost)) (set k j (e .class))
+      (sized-next j p e f h c k s) (omega arith) (omega (arith, b .tail)) t
 
 -- ---- the whole graph
 
@@ -134,21 +169,29 @@ sets-whole vs l e =
     let d : drop (0 + length vs) l ≡ [] = drop-of-length-le l {i = 0 + length vs} (omega arith) in
     sets-eq vs l 0 (omega arith) ∙ rw d (append-nil vs)
 
+-- one field of every edge, over a column
+column-whole : (z : Size) (es : List Edge) (field : Edge → ℕ) (l : List ℕ) → length es ≡ z .edges → length l ≡ z .edges → sets l 0 (map field es) ≡ map field es
+column-whole z es field l le ll = sets-whole (map field es) l (length-map es field ∙ le ∙ sym ll)
+
 -- work memory in its columns
 module _ (v m : ℕ) (w : List ℕ) where
-  split-columns : take (suc v) w ++ (take m (drop (suc v) w) ++ (take m (drop m (drop (suc v) w)) ++ drop (v + 1 + 2 * m) w)) ≡ w
-  split-columns =
-      let i : suc v + m + m ≡ v + 1 + 2 * m = omega arith in
-      let d : drop (v + 1 + 2 * m) w ≡ drop m (drop m (drop (suc v) w)) =
-      ap (λ (k : ℕ). drop k w) (sym i) ∙ sym (drop-drop m (suc v + m) w) ∙ ap (drop m) (sym (drop-drop m (suc v) w)) in
-      rw (d, take-append-drop m (drop m (drop (suc v) w)), take-append-drop m (drop (suc v) w), take-append-drop (suc v) w)
+  abbrev fromHeads : List ℕ
+  fromHeads = drop (suc v) w
 
-join : (v : ℕ) (es : List Edge) (r : List ℕ) → firstEdges (suc v) 0 es ++ (map headOf es ++ (map costOf es ++ r)) ≡ graphWords v es ++ r
-unfolding graphWords
-join v es r =
-    sym
-    (append-assoc (firstEdges (suc v) 0 es) (map headOf es ++ map costOf es) r
-    ∙ ap (λ (l : List ℕ). firstEdges (suc v) 0 es ++ l) (append-assoc (map headOf es) (map costOf es) r))
+  abbrev fromCosts : List ℕ
+  fromCosts = drop m fromHeads
+
+  abbrev fromClasses : List ℕ
+  fromClasses = drop m fromCosts
+
+  split-columns : columns (take (suc v) w) (take m fromHeads) (take m fromCosts) (take m fromClasses) (drop (v + 1 + 3 * m) w) ≡ w
+  split-columns =
+      let i : suc v + m + m + m ≡ v + 1 + 3 * m = omega arith in
+      let d : drop (v + 1 + 3 * m) w ≡ drop m fromClasses =
+      ap (λ (k : ℕ). drop k w) (sym i)
+      ∙ sym (drop-drop m (suc v + m + m) w)
+      ∙ ap (drop m) (sym (drop-drop m (suc v + m) w) ∙ ap (drop m) (sym (drop-drop m (suc v) w))) in
+      rw (d, take-append-drop m fromClasses, take-append-drop m fromCosts, take-append-drop m fromHeads, take-append-drop (suc v) w)
 
 pub load-whole :
     (z : Size) (es : List Edge) (w : List ℕ) → base z ≤ length w → length es ≡ z .edges → Rising (z .vertices) 0 es →
@@ -158,20 +201,33 @@ load-whole z es w room le rise =
     let v : ℕ = z .vertices in
     let m : ℕ = z .edges in
     let f : List ℕ = take (suc v) w in
-    let h : List ℕ = take m (drop (suc v) w) in
-    let c : List ℕ = take m (drop m (drop (suc v) w)) in
-    let r : List ℕ = drop (v + 1 + 2 * m) w in
-    let lf : length f ≡ suc v = length-take-le (suc v) w (omega arith) in
-    let lh : length h ≡ m = length-take-le m (drop (suc v) w) (simp length-drop (omega arith)) in
-    let lc : length c ≡ m = length-take-le m (drop m (drop (suc v) w)) (simp length-drop (omega arith)) in
-    let a : set w 0 0 ≡ columns z r (set f 0 0) h c =
-    ap (λ (l : List ℕ). set l 0 0) (sym (split-columns v m w)) ∙ set-append-left f (h ++ (c ++ r)) 0 0 (omega arith) in
-    let b : loadFrom z 0 0 es (columns z r (set f 0 0) h c) ≡ columns z r (firstsFrom v 0 0 es (set f 0 0)) (sets h 0 (map headOf es)) (sets c 0 (map costOf es)) =
-    load-columns z r 0 0 es (set f 0 0) h c (length-set f 0 0 ∙ lf) lh lc (omega arith) (omega arith) rise in
-    let d : columns z r (firstsFrom v 0 0 es (set f 0 0)) (sets h 0 (map headOf es)) (sets c 0 (map costOf es)) ≡ columns z r (firstEdges (suc v) 0 es) (map headOf es) (map costOf es) =
-    cc (firsts-whole v es f rise lf, sets-whole (map headOf es) h (length-map es headOf ∙ le ∙ sym lh), sets-whole (map costOf es) c (length-map es costOf ∙ le ∙ sym lc)) in
-    let n : length (graphWords v es) ≡ v + 1 + 2 * m = length-graph v es ∙ ap (λ (k : ℕ). v + 1 + 2 * k) le in
-    ap (loadFrom z 0 0 es) a ∙ b ∙ d ∙ join v es r ∙ ap (λ (k : ℕ). graphWords v es ++ drop k w) (sym n)
+    let h : List ℕ = take m (fromHeads v m w) in
+    let c : List ℕ = take m (fromCosts v m w) in
+    let k : List ℕ = take m (fromClasses v m w) in
+    let r : List ℕ = drop (v + 1 + 3 * m) w in
+    let s : Sized z r (set f 0 0) h c k =
+    record {
+      firsts = length-set f 0 0 ∙ length-take-le (suc v) w (omega arith);
+      heads = length-take-le m (fromHeads v m w) (simp length-drop (omega arith));
+      costs = length-take-le m (fromCosts v m w) (simp length-drop (omega arith));
+      classes = length-take-le m (fromClasses v m w) (simp length-drop (omega arith));
+    } in
+    let lf : length f ≡ suc v = sym (length-set f 0 0) ∙ s .firsts in
+    let a : set w 0 0 ≡ columns (set f 0 0) h c k r =
+    ap (λ (l : List ℕ). set l 0 0) (sym (split-columns v m w)) ∙ set-append-left f (h ++ (c ++ (k ++ r))) 0 0 (omega arith) in
+    let b : loadFrom z 0 0 es (columns (set f 0 0) h c k r)
+    ≡ columns (firstsFrom v 0 0 es (set f 0 0)) (sets h 0 (map headOf es)) (sets c 0 (map costOf es)) (sets k 0 (map classOf es)) r =
+    load-columns z r 0 0 es (set f 0 0) h c k s (omega arith) (omega arith) rise in
+    let d : columns (firstsFrom v 0 0 es (set f 0 0)) (sets h 0 (map headOf es)) (sets c 0 (map costOf es)) (sets k 0 (map classOf es)) r
+    ≡ columns (firstEdges (suc v) 0 es) (map headOf es) (map costOf es) (map classOf es) r =
+    cc (
+      firsts-whole v es f rise lf,
+      column-whole z es headOf h le (s .heads),
+      column-whole z es costOf c le (s .costs),
+      column-whole z es classOf k le (s .classes),
+    ) in
+    let n : length (graphWords v es) ≡ v + 1 + 3 * m = length-graph v es ∙ ap (λ (i : ℕ). v + 1 + 3 * i) le in
+    ap (loadFrom z 0 0 es) a ∙ b ∙ d ∙ sym (graph-columns v es r) ∙ ap (λ (i : ℕ). graphWords v es ++ drop i w) (sym n)
 
 empty : (es : List Edge) → length es ≡ 0 → es ≡ []
 empty [] h = refl

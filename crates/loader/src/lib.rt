@@ -13,6 +13,7 @@ use graph::Cursor;
 use graph::EdgeRead;
 use plan_check::cursor;
 use workspace::Size;
+use workspace::edge_words;
 
 // The first edge of the vertices `from` up to, not including, `to` is edge j.
 fn fill_first(work: &mut [u32], from: usize, to: usize, j: u32)
@@ -33,21 +34,17 @@ fn load_edge(bytes: &[u8], work: &mut [u32], z: Size, cursor: Cursor, j: u32) ->
     ensures { λ r. ⌜ now (work .exit) ≡ edgeStored z (cursor .tail) j (now (work .entry)) (nextEdge (z .vertices) (now (bytes .entry)) cursor) ⌝ }
 {
     let vertices = z.vertices;
-    let edges = z.edges;
     let EdgeRead::Next(edge, next) = cursor::next_edge(cursor, bytes, vertices) else {
         return cursor;
     };
     let before = cursor.tail;
     let tail = edge.tail;
     fill_first(work, (before as usize) + 1, (tail as usize) + 1, j);
-    let h = (vertices as usize) + 1 + (j as usize);
-    let c = (vertices as usize) + 1 + (edges as usize) + (j as usize);
-    work[h] = edge.head;
-    work[c] = edge.cost;
+    edge_words::put_edge(work, z, j, edge);
     next
 }
 
-// The first edges, heads and costs of the whole plan, whose first edge stands at an offset.
+// The first edges, heads, costs and classes of the whole plan, whose first edge stands at an offset.
 pub fn load_graph(bytes: &[u8], work: &mut [u32], z: Size, at: usize)
     requires { ⌜ sizes (edgesFrom (z .vertices) (z .edges) (now bytes) (firstAt at)) ≡ Sizes (z .vertices) (z .edges) ⌝ }
     requires { ⌜ base z ≤ length (now work) ⌝ }
