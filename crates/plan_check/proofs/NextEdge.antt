@@ -15,7 +15,7 @@ use Rattle.graph.specs.declared.EdgeRead.the-variants.{Next}
 use Rattle.graph.specs.declared.EdgeRead.the-variants as edgeRead
 use Rattle.graph.specs.declared.PlanRead.{PlanRead}
 use Rattle.graph.specs.declared.PlanRead.the-variants.{Sizes, Refused}
-use Rattle.graph.specs.Rows.{takeNumber, taking, tailRows, headRows, costRows}
+use Rattle.graph.specs.Rows.{takeNumber, taking, tailRows, headRows, costRows, classRows}
 use Rattle.graph.specs.Plan.{Decoded, accepted, refused, firstAt, leastAfter, past, nextEdge, before, onward, edgesFrom, sizes}
 use Rattle.graph.proofs.Rows.{Passed, take-passed}
 
@@ -50,12 +50,20 @@ module _ (v : ℕ) (s : List ℕ) (c : Cursor) where
     unfolding nextEdge taking leastAfter
     cost-refused d headAt l h costAt a k i e = rw (a, sym k, i, e)
 
+    pub class-refused :
+        (d headAt l h costAt x classAt : ℕ) → takeNumber s (c .at) (tailRows v (c .tail)) ≡ Number d headAt → l ≡ cond (eqb d 0) (c .least) 0 →
+        takeNumber s headAt (headRows v l) ≡ Number h costAt → takeNumber s costAt costRows ≡ Number x classAt →
+        takeNumber s classAt classRows ≡ taken.Refused n p → edgeRead.Refused n p ≡ nextEdge v s c
+    unfolding nextEdge taking leastAfter
+    class-refused d headAt l h costAt x classAt a k i j e = rw (a, sym k, i, j, e)
+
   pub edge-taken :
-      (d headAt l h costAt x end : ℕ) → takeNumber s (c .at) (tailRows v (c .tail)) ≡ Number d headAt → l ≡ cond (eqb d 0) (c .least) 0 →
-      takeNumber s headAt (headRows v l) ≡ Number h costAt → takeNumber s costAt costRows ≡ Number x end →
-      Next (record { tail = c .tail + d; head = h; cost = x }) (record { at = end; tail = c .tail + d; least = h + 1 }) ≡ nextEdge v s c
+      (d headAt l h costAt x classAt y end : ℕ) → takeNumber s (c .at) (tailRows v (c .tail)) ≡ Number d headAt →
+      l ≡ cond (eqb d 0) (c .least) 0 → takeNumber s headAt (headRows v l) ≡ Number h costAt → takeNumber s costAt costRows ≡ Number x classAt →
+      takeNumber s classAt classRows ≡ Number y end →
+      Next (record { tail = c .tail + d; head = h; cost = x; class = y }) (record { at = end; tail = c .tail + d; least = h + 1 }) ≡ nextEdge v s c
   unfolding nextEdge taking leastAfter past
-  edge-taken d headAt l h costAt x end a k i e = rw (a, sym k, i, e)
+  edge-taken d headAt l h costAt x classAt y end a k i j e = rw (a, sym k, i, j, e)
 
 -- ---- edge after edge
 

@@ -1,4 +1,4 @@
--- Laws of the numbers that have a range: V, M, a head and a cost have the rows that document 01 names.
+-- Laws of the numbers that have a range: V, M, a head, a cost and a class have the rows that documents 01 and 02 name.
 use Prim.Native.Nat.{ℕ, zero, suc, _+_}
 use mathlib.Core.Path.{_≡_, refl}
 use mathlib.Core.List.{List}
@@ -8,8 +8,8 @@ use Rattle.leb128.specs.declared.NumberRead.the-variants.{Value, Refused}
 use Rattle.leb128.specs.Number.{read, planGroups}
 use Rattle.graph.specs.declared.Taken.the-variants.{Number}
 use Rattle.graph.specs.declared.Taken.the-variants as taken
-use Rattle.graph.specs.Limits.{maxVertices, maxEdges, maxCost}
-use Rattle.graph.specs.Rows.{Row, through, throughAll, takeNumber, vertexCountRows, edgeCountRows, headRows, costRows}
+use Rattle.graph.specs.Limits.{maxVertices, maxEdges, maxCost, maxClass}
+use Rattle.graph.specs.Rows.{Row, through, throughAll, takeNumber, vertexCountRows, edgeCountRows, headRows, costRows, classRows}
 use Rattle.plan_check.specs.Range.{rangeRows}
 
 module _ (s : List ℕ) (at : ℕ) where
@@ -40,6 +40,10 @@ module _ (s : List ℕ) (at : ℕ) where
   pub cost-range : takeNumber s at (rangeRows (maxCost + 1) 5 0 5) ≡ takeNumber s at costRows
   unfolding rangeRows costRows through
   cost-range = alike (rangeRows (maxCost + 1) 5 0 5) costRows (λ x next. rw (leb·suc-zero x))
+
+  pub class-range : takeNumber s at (rangeRows (maxClass + 1) 15 0 15) ≡ takeNumber s at classRows
+  unfolding rangeRows classRows through
+  class-range = alike (rangeRows (maxClass + 1) 15 0 15) classRows (λ x next. rw (leb·suc-zero x))
 
   pub head-range : (v l : ℕ) → takeNumber s at (rangeRows v 4 l 6) ≡ takeNumber s at (headRows v l)
   unfolding rangeRows headRows

@@ -42,11 +42,22 @@ pub fn next_edge(cursor: Cursor, bytes: &[u8], vertices: u32) -> EdgeRead
                 Taken::Refused(n, p) => EdgeRead::Refused(n, p),
                 Taken::Number(head, cost_at) => match number::take_cost(bytes, cost_at) {
                     Taken::Refused(n, p) => EdgeRead::Refused(n, p),
-                    Taken::Number(cost, at) => {
-                        let tail = before + difference;
-                        let least = head + 1;
-                        EdgeRead::Next(Edge { tail, head, cost }, Cursor { at, tail, least })
-                    }
+                    Taken::Number(cost, class_at) => match number::take_class(bytes, class_at) {
+                        Taken::Refused(n, p) => EdgeRead::Refused(n, p),
+                        Taken::Number(class, at) => {
+                            let tail = before + difference;
+                            let least = head + 1;
+                            EdgeRead::Next(
+                                Edge {
+                                    tail,
+                                    head,
+                                    cost,
+                                    class,
+                                },
+                                Cursor { at, tail, least },
+                            )
+                        }
+                    },
                 },
             }
         }

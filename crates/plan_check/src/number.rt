@@ -1,6 +1,6 @@
 // A plan number through all its rows: read, or refused with the offset of its first byte.
 ghost use mathlib.Core.Path.{_≡_};
-ghost use Rattle.graph.specs.Rows.{takeNumber, vertexCountRows, edgeCountRows, tailRows, headRows, costRows};
+ghost use Rattle.graph.specs.Rows.{takeNumber, vertexCountRows, edgeCountRows, tailRows, headRows, costRows, classRows};
 ghost use Rattle.plan_check.specs.Range.{rangeRows};
 use graph::Taken;
 use leb128::NumberRead;
@@ -62,4 +62,11 @@ pub fn take_cost(bytes: &[u8], at: usize) -> Taken
     ensures { λ r. ⌜ r ≡ takeNumber (now (bytes .entry)) at costRows ⌝ }
 {
     take_in(bytes, at, graph::MAX_COST + 1, 5, 0, 5)
+}
+
+// A class: refusals 1 and 15.
+pub fn take_class(bytes: &[u8], at: usize) -> Taken
+    ensures { λ r. ⌜ r ≡ takeNumber (now (bytes .entry)) at classRows ⌝ }
+{
+    take_in(bytes, at, graph::MAX_CLASS + 1, 15, 0, 15)
 }

@@ -1,7 +1,7 @@
--- `next_edge` meets its contract: its three numbers one after the other.
+-- `next_edge` meets its contract: its four numbers one after the other.
 use mathlib.Core.Path.{sym, _∙_}
 use native.Mathlib.Omega.{arith}
-use Rattle.plan_check.proofs.NextEdge.{taken-tail, taken-head, tail-refused, head-refused, cost-refused, edge-taken}
+use Rattle.plan_check.proofs.NextEdge.{taken-tail, taken-head, tail-refused, head-refused, cost-refused, class-refused, edge-taken}
 use borrow.Author.Needs.{needs}
 use Rattle.plan_check.proofs.cursor.next_edge.Statement.{statement}
 use Rattle.plan_check.proofs.cursor.next_edge.Tie as tie
@@ -36,15 +36,27 @@ enum-known-n-3 c = search needs
 enum-known-cost : tie.Need-enum-known-cost
 enum-known-cost c = search needs
 
+take-class-requires : tie.Need-take-class-requires
+take-class-requires c κs = search needs
+
+enum-known-n-4 : tie.Need-enum-known-n-4
+enum-known-n-4 c = search needs
+
+enum-known-class : tie.Need-enum-known-class
+enum-known-class c = search needs
+
 add-tail : tie.Need-add-tail
 add-tail c =
-    let k = c .before .before .before .before .before in
+    let m = c .before .before .before .before .before in
+    let k = m .before .before .before .before in
     let j = k .before .before .before .before .before in
     omega (arith, taken-tail _ _ _ _ _ _ (sym (j .before .before .take-tail .ensures) ∙ j .difference .given .1))
 
 add-least : tie.Need-add-least
 add-least c =
-    let k = c .before .before .before .before .before in omega (arith, taken-head _ _ _ _ _ _ (sym (k .before .before .take-head .ensures) ∙ k .head .given .1))
+    let m = c .before .before .before .before .before in
+    let k = m .before .before .before .before in
+    omega (arith, k .before .before .before .before .before, taken-head _ _ _ _ _ _ (sym (k .before .before .take-head .ensures) ∙ k .head .given .1))
 
 returns : tie.Need-returns
 returns c = tail-refused _ _ _ _ _ (sym (c .before .before .before .take-tail .ensures) ∙ c .before .n .given .1)
@@ -62,9 +74,17 @@ returns-3 c =
 
 returns-4 : tie.Need-returns-4
 returns-4 c =
-    let k = c .before .before .before .before .before in
+    let m = c .before .before .before .before .before in
+    let k = m .before .before .before .before in
     let j = k .before .before .before .before .before in
-    edge-taken _ _ _ _ _ _ _ _ _ _ (sym (j .before .before .take-tail .ensures) ∙ j .difference .given .1) (k .before .before .before .least-after .ensures) (sym (k .before .before .take-head .ensures) ∙ k .head .given .1) (sym (c .before .before .before .take-cost .ensures) ∙ c .before .cost .given .1)
+    class-refused _ _ _ _ _ _ _ _ _ _ _ _ (sym (j .before .before .take-tail .ensures) ∙ j .difference .given .1) (k .before .before .before .least-after .ensures) (sym (k .before .before .take-head .ensures) ∙ k .head .given .1) (sym (m .before .before .take-cost .ensures) ∙ m .cost .given .1) (sym (c .before .before .before .take-class .ensures) ∙ c .before .n4 .given .1)
+
+returns-5 : tie.Need-returns-5
+returns-5 c =
+    let m = c .before .before .before .before .before in
+    let k = m .before .before .before .before in
+    let j = k .before .before .before .before .before in
+    edge-taken _ _ _ _ _ _ _ _ _ _ _ _ (sym (j .before .before .take-tail .ensures) ∙ j .difference .given .1) (k .before .before .before .least-after .ensures) (sym (k .before .before .take-head .ensures) ∙ k .head .given .1) (sym (m .before .before .take-cost .ensures) ∙ m .cost .given .1) (sym (c .before .before .before .take-class .ensures) ∙ c .before .class .given .1)
 
 pub next-edge-spec : {M : Type 1} → statement M
 next-edge-spec =
@@ -80,9 +100,13 @@ next-edge-spec =
     take-cost-requires
     enum-known-n-3
     enum-known-cost
+    take-class-requires
+    enum-known-n-4
+    enum-known-class
     add-tail
     add-least
     returns
     returns-2
     returns-3
-    returns-4)
+    returns-4
+    returns-5)
