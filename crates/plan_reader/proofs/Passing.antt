@@ -9,7 +9,7 @@ use Rattle.leb128.specs.Number.{read, planGroups}
 use Rattle.leb128.specs.declared.NumberRead.the-variants.{Value, Refused}
 use Rattle.graph.specs.declared.Cursor.{Cursor}
 use Rattle.graph.specs.declared.Taken.the-variants.{Number}
-use Rattle.graph.specs.Rows.{Row, takeNumber, tailRows, headRows, costRows}
+use Rattle.graph.specs.Rows.{Row, takeNumber, tailRows, headRows, costRows, classRows}
 use Rattle.graph.specs.Plan.{leastAfter}
 use Rattle.plan_reader.specs.Stored.{HasNext}
 use Rattle.graph.proofs.Rows.{Passes, Passed, passed-take}
@@ -57,13 +57,25 @@ module _ (v : ℕ) (s : List ℕ) (c : Cursor) (h : HasNext v s c) where
       pub head-taken : takeNumber s headAt (headRows v (cond (eqb d 0) (c .least) 0)) ≡ Number x costAt
       head-taken = taken s headAt (headRows v (cond (eqb d 0) (c .least) 0)) (h .edge .head) (found .costAt) head-passed x costAt b
 
-      cost-passed : Passed s costAt costRows (h .edge .cost) (h .after .at)
+      cost-passed : Passed s costAt costRows (h .edge .cost) (found .classAt)
       cost-passed =
-          subst (λ (z : ℕ). Passed s z costRows (h .edge .cost) (h .after .at))
+          subst (λ (z : ℕ). Passed s z costRows (h .edge .cost) (found .classAt))
           (next-same s headAt (headRows v (cond (eqb d 0) (c .least) 0)) (h .edge .head) (found .costAt) head-passed x costAt b) (found .costRead)
 
       pub cost-there : (q : ℕ) → read planGroups s costAt ≡ Refused q → ⊥
-      cost-there = never s costAt costRows (h .edge .cost) (h .after .at) cost-passed
+      cost-there = never s costAt costRows (h .edge .cost) (found .classAt) cost-passed
 
-      pub cost-taken : (y end : ℕ) → read planGroups s costAt ≡ Value y end → takeNumber s costAt costRows ≡ Number y end
-      cost-taken = taken s costAt costRows (h .edge .cost) (h .after .at) cost-passed
+      module _ (y classAt : ℕ) (e : read planGroups s costAt ≡ Value y classAt) where
+        pub cost-taken : takeNumber s costAt costRows ≡ Number y classAt
+        cost-taken = taken s costAt costRows (h .edge .cost) (found .classAt) cost-passed y classAt e
+
+        class-passed : Passed s classAt classRows (h .edge .class) (h .after .at)
+        class-passed =
+            subst (λ (z : ℕ). Passed s z classRows (h .edge .class) (h .after .at))
+            (next-same s costAt costRows (h .edge .cost) (found .classAt) cost-passed y classAt e) (found .classRead)
+
+        pub class-there : (q : ℕ) → read planGroups s classAt ≡ Refused q → ⊥
+        class-there = never s classAt classRows (h .edge .class) (h .after .at) class-passed
+
+        pub class-taken : (z end : ℕ) → read planGroups s classAt ≡ Value z end → takeNumber s classAt classRows ≡ Number z end
+        class-taken = taken s classAt classRows (h .edge .class) (h .after .at) class-passed

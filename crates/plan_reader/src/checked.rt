@@ -20,12 +20,20 @@ pub fn next_edge(cursor: Cursor, bytes: &[u8], vertices: u32) -> EdgeRead
     let NumberRead::Value(head, cost_at) = leb128_reader::read_plan_number(bytes, head_at) else {
         return EdgeRead::Refused(1, head_at);
     };
-    let NumberRead::Value(cost, end) = leb128_reader::read_plan_number(bytes, cost_at) else {
+    let NumberRead::Value(cost, class_at) = leb128_reader::read_plan_number(bytes, cost_at) else {
         return EdgeRead::Refused(1, cost_at);
+    };
+    let NumberRead::Value(class, end) = leb128_reader::read_plan_number(bytes, class_at) else {
+        return EdgeRead::Refused(1, class_at);
     };
     let tail = before + difference;
     EdgeRead::Next(
-        Edge { tail, head, cost },
+        Edge {
+            tail,
+            head,
+            cost,
+            class,
+        },
         Cursor {
             at: end,
             tail,

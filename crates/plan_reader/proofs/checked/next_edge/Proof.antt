@@ -1,7 +1,7 @@
--- `next_edge` meets its contract: three numbers that pass their rows.
+-- `next_edge` meets its contract: four numbers that pass their rows.
 use mathlib.Core.Path.{sym, _∙_, refl}
 use native.Mathlib.Omega.{arith}
-use Rattle.plan_reader.proofs.Passing.{tail-there, tail-taken, head-there, head-taken, cost-there, cost-taken}
+use Rattle.plan_reader.proofs.Passing.{tail-there, tail-taken, head-there, head-taken, cost-there, cost-taken, class-there, class-taken}
 use Rattle.plan_check.proofs.NextEdge.{taken-tail, taken-head, edge-taken}
 use borrow.Author.Needs.{needs}
 use Rattle.plan_reader.proofs.checked.next_edge.Statement.{statement}
@@ -48,27 +48,50 @@ returns-3 c =
     let b = sym (c .before .before .before .before .before .before .read-plan-number2 .ensures) ∙ c .before .before .before .before .head .given .1 in
     absurd (cost-there _ _ _ (k .before .before .before .before .pre) _ _ a _ _ b _ (sym (c .before .before .read-plan-number3 .ensures) ∙ c .enum-told3 .given .1))
 
-add-tail : tie.Need-add-tail
-add-tail c =
-    let k = c .before .before .before .before .before .before .before .before .before in
-    let a = sym (k .before .before .read-plan-number .ensures) ∙ k .difference .given .1 in
-    omega (arith, taken-tail _ _ _ _ _ _ (tail-taken _ _ _ (k .before .before .before .before .pre) _ _ a))
+read-plan-number-requires-4 : tie.Need-read-plan-number-requires-4
+read-plan-number-requires-4 c κs = search needs
 
-add-t17 : tie.Need-add-t17
-add-t17 c =
-    let k = c .before .before .before .before .before .before .before .before .before in
-    let a = sym (k .before .before .read-plan-number .ensures) ∙ k .difference .given .1 in
-    let b = sym (c .before .before .before .before .before .before .before .read-plan-number2 .ensures) ∙ c .before .before .before .before .before .head .given .1 in
-    omega (arith, taken-head _ _ _ _ _ _ (head-taken _ _ _ (k .before .before .before .before .pre) _ _ a _ _ b))
+enum-known-class : tie.Need-enum-known-class
+enum-known-class c = search needs
+
+enum-told-4 : tie.Need-enum-told-4
+enum-told-4 c = search needs
 
 returns-4 : tie.Need-returns-4
 returns-4 c =
-    let k = c .before .before .before .before .before .before .before .before .before in
+    let m = c .before .before .before .before in
+    let j = m .before .before .before .before in
+    let k = j .before .before .before .before in
+    let a = sym (k .before .before .read-plan-number .ensures) ∙ k .difference .given .1 in
+    let b = sym (j .before .before .read-plan-number2 .ensures) ∙ j .head .given .1 in
+    let d = sym (m .before .before .read-plan-number3 .ensures) ∙ m .cost .given .1 in
+    absurd (class-there _ _ _ (k .before .before .before .before .pre) _ _ a _ _ b _ _ d _ (sym (c .before .before .read-plan-number4 .ensures) ∙ c .enum-told4 .given .1))
+
+add-tail : tie.Need-add-tail
+add-tail c =
+    let k = c .before .before .before .before .before .before .before .before .before .before .before .before .before in
+    let a = sym (k .before .before .read-plan-number .ensures) ∙ k .difference .given .1 in
+    omega (arith, taken-tail _ _ _ _ _ _ (tail-taken _ _ _ (k .before .before .before .before .pre) _ _ a))
+
+add-t20 : tie.Need-add-t20
+add-t20 c =
+    let j = c .before .before .before .before .before .before .before .before .before in
+    let k = j .before .before .before .before in
+    let a = sym (k .before .before .read-plan-number .ensures) ∙ k .difference .given .1 in
+    let b = sym (j .before .before .read-plan-number2 .ensures) ∙ j .head .given .1 in
+    omega (arith, taken-head _ _ _ _ _ _ (head-taken _ _ _ (k .before .before .before .before .pre) _ _ a _ _ b))
+
+returns-5 : tie.Need-returns-5
+returns-5 c =
+    let m = c .before .before .before .before .before in
+    let j = m .before .before .before .before in
+    let k = j .before .before .before .before in
     let h = k .before .before .before .before .pre in
     let a = sym (k .before .before .read-plan-number .ensures) ∙ k .difference .given .1 in
-    let b = sym (c .before .before .before .before .before .before .before .read-plan-number2 .ensures) ∙ c .before .before .before .before .before .head .given .1 in
-    edge-taken _ _ _ _ _ _ _ _ _ _ (tail-taken _ _ _ h _ _ a) refl (head-taken _ _ _ h _ _ a _ _ b)
-    (cost-taken _ _ _ h _ _ a _ _ b _ _ (sym (c .before .before .before .read-plan-number3 .ensures) ∙ c .before .cost .given .1))
+    let b = sym (j .before .before .read-plan-number2 .ensures) ∙ j .head .given .1 in
+    let d = sym (m .before .before .read-plan-number3 .ensures) ∙ m .cost .given .1 in
+    edge-taken _ _ _ _ _ _ _ _ _ _ _ _ (tail-taken _ _ _ h _ _ a) refl (head-taken _ _ _ h _ _ a _ _ b) (cost-taken _ _ _ h _ _ a _ _ b _ _ d)
+    (class-taken _ _ _ h _ _ a _ _ b _ _ d _ _ (sym (c .before .before .before .read-plan-number4 .ensures) ∙ c .before .class .given .1))
 
 pub next-edge-spec : {M : Type 1} → statement M
 next-edge-spec =
@@ -86,6 +109,10 @@ next-edge-spec =
     enum-known-cost
     enum-told-3
     returns-3
+    read-plan-number-requires-4
+    enum-known-class
+    enum-told-4
+    returns-4
     add-tail
-    add-t17
-    returns-4)
+    add-t20
+    returns-5)
