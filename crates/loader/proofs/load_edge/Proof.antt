@@ -1,12 +1,14 @@
 -- `load_edge` meets its contract: an edge, or nothing.
 use mathlib.Core.Path.{sym, _∙_}
 use native.Mathlib.Omega.{arith}
-use lib.ListN.{length-set}
 use Rattle.workspace.specs.Layout.{base}
 use Rattle.loader.proofs.Loading.{next-tail, loaded-none, loaded-one}
 use borrow.Author.Needs.{needs}
 use Rattle.loader.proofs.load_edge.Statement.{statement}
 use Rattle.loader.proofs.load_edge.Tie as tie
+use Rattle.loader.proofs.fill_first.Reads as fill-first-reads
+use Rattle.plan_check.proofs.cursor.next_edge.Reads as next-edge-reads
+use Rattle.workspace.proofs.edge_words.put_edge.Reads as put-edge-reads
 
 next-edge-requires : tie.Need-next-edge-requires
 next-edge-requires c κs = search needs
@@ -41,56 +43,18 @@ fill-first-requires c κs =
     let q = sym (c .before .before .before .before .next-edge .ensures) ∙ c .before .before .edge .given .1 in
     omega (arith, next-tail _ _ (s .args .cursor) _ _ q .vertex, s .pre .0)
 
-cast-h : tie.Need-cast-h
-cast-h c = search needs
-
-add-h : tie.Need-add-h
-add-h c = search needs
-
-add-h-2 : tie.Need-add-h-2
-add-h-2 c = search needs
-
-cast-c : tie.Need-cast-c
-cast-c c = search needs
-
-add-c : tie.Need-add-c
-add-c c = search needs
-
-cast-c-2 : tie.Need-cast-c-2
-cast-c-2 c = search needs
-
-add-c-2 : tie.Need-add-c-2
-add-c-2 c = search needs
-
-add-c-3 : tie.Need-add-c-3
-add-c-3 c = search needs
-
-mul-work : tie.Need-mul-work
-mul-work c = search needs
-
-slice-write-work : tie.Need-slice-write-work
-unfolding base
-slice-write-work c =
-    let k = c .before .before in
-    omega (arith, k .fill-first .kept .0, k .before .before .before .before .before .before .before .before .pre .0)
-
-mul-work-2 : tie.Need-mul-work-2
-mul-work-2 c = search needs
-
-slice-write-work-2 : tie.Need-slice-write-work-2
-unfolding base
-slice-write-work-2 c =
-    let k = c .before .before in
-    simp length-set (omega (arith, k .fill-first .kept .0, k .before .before .before .before .before .before .before .before .pre .0))
+put-edge-requires : tie.Need-put-edge-requires
+put-edge-requires c κs = search needs
 
 same-length : tie.Need-same-length
 same-length c = search needs
 
 returns-2 : tie.Need-returns-2
 returns-2 c =
-    let k = c .before .before .before .before .before in
+    let k = c .before .before .before .before .before .before .before .before .before in
     let s = k .before .before .before .before .before in
-    loaded-one (s .args .z) (s .args .j) (s .args .work .now) (s .args .cursor) _ _ _ _ (sym (k .before .before .next-edge .ensures) ∙ k .edge .given .1) (c .before .before .fill-first .ensures)
+    loaded-one (s .args .z) (s .args .j) (s .args .work .now) (s .args .cursor) _ _ _ _ _ (sym (k .before .before .next-edge .ensures) ∙ k .edge .given .1)
+    (c .before .before .before .before .before .before .fill-first .ensures) (c .before .before .put-edge .ensures)
 
 pub load-edge-spec : {M : Type 1} → statement M
 load-edge-spec =
@@ -105,17 +69,6 @@ load-edge-spec =
     cast-fill-first-2
     add-fill-first-2
     fill-first-requires
-    cast-h
-    add-h
-    add-h-2
-    cast-c
-    add-c
-    cast-c-2
-    add-c-2
-    add-c-3
-    mul-work
-    slice-write-work
-    mul-work-2
-    slice-write-work-2
+    put-edge-requires
     same-length
     returns-2)
