@@ -2,7 +2,7 @@
 use mathlib.Core.Path.{_≡_, refl, sym, ap, _∙_}
 use mathlib.Core.Logic.{_↔_}
 use mathlib.Core.Bool.{Bool, true, false, true≢false, cond}
-use mathlib.Core.List.{List, [], _∷_, List·Memᴰ, List·Memᴰ·head, List·Memᴰ·tail}
+use mathlib.Core.List.{List, [], _∷_, _++_, List·Memᴰ, List·Memᴰ·head, List·Memᴰ·tail}
 use Prim.Native.Nat.{ℕ, _+_, _*_, _/_, _%_, _^_, _<_}
 use native.Mathlib.Nat.{mod-lt, mod-add-div', one-le-pow, div-eq-of-lt, add-mul-div-right}
 use native.Mathlib.Omega.{arith}
@@ -43,13 +43,15 @@ bit-clear b k t =
 -- ---- the permitted edges
 
 module _ (b : ℕ) where
-  pub permitted-skip : (e : Edge) (es : List Edge) → barredBy b (e .class) ≡ true → permitted b (e ∷ es) ≡ permitted b es
+  pub permitted-append : (ds es : List Edge) → permitted b (ds ++ es) ≡ permitted b ds ++ permitted b es
   unfolding permitted
-  permitted-skip e es h = rw h
-
-  pub permitted-take : (e : Edge) (es : List Edge) → barredBy b (e .class) ≡ false → permitted b (e ∷ es) ≡ e ∷ permitted b es
-  unfolding permitted
-  permitted-take e es h = rw h
+  permitted-append [] es = refl
+  permitted-append (d ∷ ds) es = by (barredBy b (d .class)) (permitted-append ds es)
+    where
+      by : (t : Bool) → permitted b (ds ++ es) ≡ permitted b ds ++ permitted b es →
+          cond t (permitted b (ds ++ es)) (d ∷ permitted b (ds ++ es)) ≡ cond t (permitted b ds) (d ∷ permitted b ds) ++ permitted b es
+      by true e = e
+      by false e = ap (λ (l : List Edge). d ∷ l) e
 
   -- of one edge and those after it
   module _ (d : Edge) (ps es : List Edge) (e : Edge) where

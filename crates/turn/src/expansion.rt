@@ -1,7 +1,9 @@
 // Expanding a vertex over work memory.
 ghost use Prim.Native.Nat.{_<_};
+ghost use mathlib.Core.List.{[], _∷_};
+ghost use Rattle.search.specs.Permitted.{permitted};
 ghost use Rattle.search.specs.Turn.{relax, relaxAll, expand};
-ghost use Rattle.workspace.specs.Layout.{mem, verticesOf, graphOf, Ready, Becomes};
+ghost use Rattle.workspace.specs.Layout.{mem, verticesOf, edgeAt, graphOf, Ready, Becomes};
 use crate::vertices;
 use graph::Edge;
 use workspace::Size;
@@ -22,27 +24,37 @@ fn relax(work: &mut [u32], z: Size, s: u32, g: u64, e: Edge)
     }
 }
 
-// Tries the edges of s, where g is that of s.
-fn relax_all(work: &mut [u32], z: Size, s: u32, g: u64)
+// Tries edge j, of s, unless its class is barred; g is that of s.
+fn try_edge(work: &mut [u32], z: Size, barred: u32, s: u32, g: u64, j: u32)
+    requires { ⌜ Ready z (mem (now work)) × (j < z .edges) ⌝ }
+    ensures { λ _. ⌜ Becomes z (relaxAll s g (permitted barred (edgeAt z (now (work .entry)) s j ∷ [])) (verticesOf z (mem (now (work .entry))))) (mem (now (work .entry))) (mem (now (work .exit))) ⌝ }
+{
+    let e = edge_words::edge(work, z, s, j);
+    if !barring::bars(barred, e.class) {
+        relax(work, z, s, g, e);
+    }
+}
+
+// Tries the edges of s that are not barred, where g is that of s.
+fn relax_all(work: &mut [u32], z: Size, barred: u32, s: u32, g: u64)
     requires { ⌜ Ready z (mem (now work)) × (s < z .vertices) ⌝ }
-    ensures { λ _. ⌜ Becomes z (relaxAll s g (graphOf z (now (work .entry))) (verticesOf z (mem (now (work .entry))))) (mem (now (work .entry))) (mem (now (work .exit))) ⌝ }
+    ensures { λ _. ⌜ Becomes z (relaxAll s g (permitted barred (graphOf z (now (work .entry)))) (verticesOf z (mem (now (work .entry))))) (mem (now (work .entry))) (mem (now (work .exit))) ⌝ }
 {
     let mut j = edge_words::first_edge(work, z, s);
     let end = edge_words::first_edge(work, z, s + 1);
     while j < end {
-        let e = edge_words::edge(work, z, s, j);
-        relax(work, z, s, g, e);
+        try_edge(work, z, barred, s, g, j);
         j += 1;
     }
 }
 
-// Expands s for heuristic i: s is marked, and its edges are tried in plan order.
-pub fn expand(work: &mut [u32], z: Size, i: u32, s: u32)
+// Expands s for heuristic i: s is marked, and its edges that are not barred are tried in plan order.
+pub fn expand(work: &mut [u32], z: Size, barred: u32, i: u32, s: u32)
     requires { ⌜ Ready z (mem (now work)) × (s < z .vertices) ⌝ }
-    ensures { λ _. ⌜ Becomes z (expand (graphOf z (now (work .entry))) i s (verticesOf z (mem (now (work .entry))))) (mem (now (work .entry))) (mem (now (work .exit))) ⌝ }
+    ensures { λ _. ⌜ Becomes z (expand (permitted barred (graphOf z (now (work .entry)))) i s (verticesOf z (mem (now (work .entry))))) (mem (now (work .entry))) (mem (now (work .exit))) ⌝ }
 {
     let x = vertex_words::load(work, z, s);
     let g = x.g;
     vertex_words::store(work, z, s, vertices::marked(x, i));
-    relax_all(work, z, s, g);
+    relax_all(work, z, barred, s, g);
 }

@@ -7,6 +7,7 @@ mod vertices;
 ghost use mathlib.Core.Path.{_≡_};
 ghost use Prim.Native.Nat.{_<_, _≤_, _*_};
 ghost use lib.ListN.{length, set};
+ghost use Rattle.search.specs.Permitted.{permitted};
 ghost use Rattle.search.specs.Job.{at};
 ghost use Rattle.search.specs.Turn.{least, stepOne, candidate, expand};
 ghost use Rattle.search.specs.Bounds.{maxFactor, DueWithin, maxKey, Within};
@@ -70,12 +71,14 @@ fn note(log: &mut [u32], k: u32, c: Choice)
     }
 }
 
-// A turn of heuristic i, the one after k others, where the anchor's least key is m at vertex a.
+// A turn of heuristic i, the one after k others, where the anchor's least key is m at vertex a, and the barred
+// classes are given.
 pub fn turn(
     work: &mut [u32],
     log: &mut [u32],
     guides: &[u32],
     z: Size,
+    barred: u32,
     f: Factors,
     m: u64,
     a: u32,
@@ -83,10 +86,10 @@ pub fn turn(
     k: u32,
 )
     requires { ⌜ Asked z f (now guides) (mem (now work)) i × (m ≤ maxKey) × (a < z .vertices) ⌝ }
-    ensures { λ _. ⌜ Becomes z (expand (graphOf z (now (work .entry))) (choiceOf z f (now (guides .entry)) (mem (now (work .entry))) m a i .heuristic) (choiceOf z f (now (guides .entry)) (mem (now (work .entry))) m a i .vertex) (verticesOf z (mem (now (work .entry))))) (mem (now (work .entry))) (mem (now (work .exit))) ⌝ }
+    ensures { λ _. ⌜ Becomes z (expand (permitted barred (graphOf z (now (work .entry)))) (choiceOf z f (now (guides .entry)) (mem (now (work .entry))) m a i .heuristic) (choiceOf z f (now (guides .entry)) (mem (now (work .entry))) m a i .vertex) (verticesOf z (mem (now (work .entry))))) (mem (now (work .entry))) (mem (now (work .exit))) ⌝ }
     ensures { λ _. ⌜ now (log .exit) ≡ set (now (log .entry)) k (choiceWord (choiceOf z f (now (guides .entry)) (mem (now (work .entry))) m a i)) ⌝ }
 {
     let c = choice(work, guides, z, f, m, a, i);
     note(log, k, c);
-    expansion::expand(work, z, c.heuristic, c.vertex);
+    expansion::expand(work, z, barred, c.heuristic, c.vertex);
 }

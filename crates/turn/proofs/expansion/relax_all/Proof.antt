@@ -9,10 +9,10 @@ use Rattle.turn.proofs.expansion.relax_all.Statement.{statement}
 use Rattle.turn.proofs.expansion.relax_all.Tie as tie
 
 abbrev Inv-loop : tie.InvT-loop
-Inv-loop work₀ z s g j₀ end work j = Tried z s g j₀ end (mem work₀) (mem work) j
+Inv-loop work₀ z barred s g j₀ end work j = Tried z barred s g j₀ end (mem work₀) (mem work) j
 
 abbrev μ-loop : tie.MeasureT-loop
-μ-loop work₀ z s g j₀ end work j = end - j
+μ-loop work₀ z barred s g j₀ end work j = end - j
 
 first-edge-requires : tie.Need-first-edge-requires Inv-loop μ-loop
 first-edge-requires c κs = (omega (arith, c .before .before .pre .0 .room .work), search needs)
@@ -24,23 +24,16 @@ first-edge-requires-2 : tie.Need-first-edge-requires-2 Inv-loop μ-loop
 first-edge-requires-2 c κs = (omega (arith, c .before .before .before .before .pre .0 .room .work), search needs)
 
 loop-holds : tie.Need-loop-holds Inv-loop μ-loop
-loop-holds c = tried-none _ _ _ _ _ _ (c .before .before .before .before .before .pre .0)
+loop-holds c = tried-none _ _ _ _ _ _ _ (c .before .before .before .before .before .pre .0)
 
-edge-requires : tie.Need-edge-requires Inv-loop μ-loop
-edge-requires c κs =
+try-edge-requires : tie.Need-try-edge-requires Inv-loop μ-loop
+try-edge-requires c κs =
     let a = c .before .before .before .before .before .before .before .before in
     let l = c .before .before .loop in
-    let m : l .j < a .args .z .edges = omega (arith, a .pre .0 .graph .ends (a .args .s) (a .pre .1), rw add-one at (c .before .before .before .first-edge2 .ensures)) in
-    (omega (arith, tried-ready _ _ _ _ _ _ (a .pre .0) (mem (l .work)) (l .j) (l .inv) .room .work), m)
-
-relax-requires : tie.Need-relax-requires Inv-loop μ-loop
-relax-requires c κs =
-    let k = c .before .before .before .before in
-    let a = k .before .before .before .before .before .before in
-    let l = k .loop in
-    let m : l .j < a .args .z .edges = omega (arith, a .pre .0 .graph .ends (a .args .s) (a .pre .1), rw add-one at (k .before .first-edge2 .ensures)) in
-    let r = tried-ready _ _ _ _ _ _ (a .pre .0) (mem (l .work)) (l .j) (l .inv) in
-    (r, rw (c .before .edge .ensures) (r .graph .heads (a .args .s) (l .j) m))
+    (
+      tried-ready _ _ _ _ _ _ _ (a .pre .0) (mem (l .work)) (l .j) (l .inv),
+      omega (arith, a .pre .0 .graph .ends (a .args .s) (a .pre .1), rw add-one at (c .before .before .before .first-edge2 .ensures), c .before .loop-test .taken),
+    )
 
 add-j : tie.Need-add-j Inv-loop μ-loop
 add-j c = search needs
@@ -50,20 +43,20 @@ loop-less c = search needs
 
 loop-again : tie.Need-loop-again Inv-loop μ-loop
 loop-again c =
-    let k = c .before .before .before .before .before .before .before in
+    let k = c .before .before .before .before .before in
     let a = k .before .before .before .before .before .before in
     let l = k .loop in
-    let m : l .j < a .args .z .edges = omega (arith, a .pre .0 .graph .ends (a .args .s) (a .pre .1), rw add-one at (k .before .first-edge2 .ensures)) in
-    tried-next _ _ _ _ _ _ (a .pre .0) (mem (l .work)) (l .j) (l .inv) _ _ (c .before .before .before .before .before .before .loop-test .taken) m (c .before .before .before .before .edge .ensures) (c .before .before .relax .ensures)
+    let m : l .j < a .args .z .edges = omega (arith, a .pre .0 .graph .ends (a .args .s) (a .pre .1), rw add-one at (k .before .first-edge2 .ensures), c .before .before .before .before .loop-test .taken) in
+    tried-next _ _ _ _ _ _ _ (a .pre .0) (mem (l .work)) (l .j) (l .inv) _ (c .before .before .before .before .loop-test .taken) m (c .before .before .try-edge .ensures)
 
 same-length : tie.Need-same-length Inv-loop μ-loop
-same-length c = tried-length _ _ _ _ _ _ (c .before .before .before .before .before .before .before .pre .0) (mem (c .before .loop .work)) (c .before .loop .j) (c .before .loop .inv)
+same-length c = tried-length _ _ _ _ _ _ _ (c .before .before .before .before .before .before .before .pre .0) (mem (c .before .loop .work)) (c .before .loop .j) (c .before .loop .inv)
 
 returns : tie.Need-returns Inv-loop μ-loop
 returns c =
     let a = c .before .before .before .before .before .before .before in
     let l = c .before .loop in
-    tried-all _ _ _ _ _ _ (a .pre .0) (mem (l .work)) (l .j) (l .inv) (a .pre .1) (c .loop-test .left) (c .before .before .before .before .first-edge .ensures) (c .before .before .first-edge2 .ensures)
+    tried-all _ _ _ _ _ _ _ (a .pre .0) (mem (l .work)) (l .j) (l .inv) (a .pre .1) (c .loop-test .left) (c .before .before .before .before .first-edge .ensures) (c .before .before .first-edge2 .ensures)
 
 pub relax-all-spec : {M : Type 1} → statement M
 relax-all-spec =
@@ -75,8 +68,7 @@ relax-all-spec =
     add-first-edge
     first-edge-requires-2
     loop-holds
-    edge-requires
-    relax-requires
+    try-edge-requires
     add-j
     loop-less
     loop-again
