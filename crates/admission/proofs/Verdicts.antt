@@ -13,7 +13,7 @@ use Rattle.graph.specs.declared.PlanRead.the-variants.{Sizes}
 use Rattle.graph.specs.declared.PlanRead.the-variants as plan
 use Rattle.graph.specs.Plan.{Decoded, accepted, refused, header, afterHeader, decode, firstAt, edgesFrom, sizes}
 use Rattle.graph.specs.Lists.{Fault, edgesIn}
-use Rattle.graph.proofs.Tests.{or-right, and-true, not-false}
+use Rattle.graph.proofs.Tests.{or-left, or-right, and-true, not-false}
 use Rattle.plan_check.proofs.Checked.{sized-by}
 use Rattle.search.specs.Call.{row, first, endsRow, tablesRow, scheduleRow, memoryRow, goalRow, edgesRow, faultIn, faultOf, planEdges, jobIn, jobFrom, jobOf}
 use Rattle.admission.specs.declared.Query.{Query}
@@ -26,9 +26,11 @@ use Rattle.admission.specs.Admission.{firstEdgeAt, verdictOf, Decided}
 -- ---- the rows of a call whose plan was checked
 
 -- the goal is a vertex, and the anchor heuristic has a number for each vertex
-pub ends-hold : (start goal v : ℕ) (b : Bool) → b ≡ not (ltb start v && ltb goal v) → b ≡ false → goal < v
-ends-hold start goal v b e f =
-    ltb-true goal v (and-true (ltb start v) (ltb goal v) (not-false (ltb start v && ltb goal v) (sym e ∙ f)) .1)
+pub ends-hold : (start goal barred v : ℕ) (b : Bool) → b ≡ (not (ltb start v && ltb goal v) || ltb 255 barred) → b ≡ false → goal < v
+ends-hold start goal barred v b e f =
+    ltb-true goal v
+    (and-true (ltb start v) (ltb goal v)
+    (not-false (ltb start v && ltb goal v) (or-left (not (ltb start v && ltb goal v)) (ltb 255 barred) (sym e ∙ f))) .1)
 
 pub tables-hold :
     (count a v g : ℕ) (b : Bool) → b ≡ (ltb 8 count || not (eqb a v && eqb g (count * v))) → b ≡ false → a ≡ v
@@ -55,13 +57,13 @@ module _
 
   -- the rows, over the code's tests
   abbrev ends : Bool
-  ends = not (ltb (q .start) v && ltb (q .goal) v)
+  ends = not (ltb (q .start) v && ltb (q .goal) v) || ltb 255 (q .barred)
 
   abbrev tables : Bool
   tables = ltb 8 (q .guides) || not (eqb (length anchor) v && eqb (length sheets) (q .guides * v))
 
   abbrev memory : Bool
-  memory = ltb (lengths .route) v || ltb (lengths .work) (5 * v + 1 + 2 * m)
+  memory = ltb (lengths .route) v || ltb (lengths .work) (5 * v + 1 + 3 * m)
 
   abbrev last : List Fault
   last = row (not (eqb (getD anchor (q .goal) 0) 0)) 12 0 ∷ edgesRow anchor 0 edges ∷ []
@@ -82,6 +84,7 @@ module _
               k .schedule-is,
               k .start-is,
               k .goal-is,
+              k .barred-is,
               k .anchor-is,
               k .sheets-is,
               k .count-is,

@@ -26,6 +26,7 @@ pub record Asks (c : Call) (bytes : List ℕ) (q : Query) (anchor sheets schedul
   pub bytes-is : c .bytes ≡ bytes
   pub start-is : c .start ≡ q .start
   pub goal-is : c .goal ≡ q .goal
+  pub barred-is : c .barred ≡ q .barred
   pub anchor-is : c .anchor ≡ anchor
   pub sheets-is : c .sheets ≡ sheets
   pub count-is : c .count ≡ q .guides

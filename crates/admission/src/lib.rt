@@ -8,11 +8,12 @@ ghost use Rattle.admission.specs.Admission.{Decided};
 use graph::Header;
 use graph::PlanRead;
 
-// What a call asks besides slices: the ends, the number of inadmissible heuristics (guides), and the budget
-// (allowance) of turns.
+// What a call asks besides slices: the ends, the barred classes, the number of inadmissible heuristics (guides),
+// and the budget (allowance) of turns.
 pub struct Query {
     pub start: u32,
     pub goal: u32,
+    pub barred: u32,
     pub guides: u32,
     pub budget: u32,
 }
@@ -30,8 +31,8 @@ pub enum Verdict {
     Refused(u32, usize),
 }
 
-// The verdict on a planner call: refused for its first fault, those of the plan (1 to 7) before the rows 8 to
-// 13; or admitted. The schedule is the one in force, which is never empty.
+// The verdict on a planner call: refused for its first fault, those of the plan (1 to 7, 15) before the rows 8
+// to 13; or admitted. The schedule is the one in force, which is never empty.
 pub fn decide(
     bytes: &[u8],
     q: Query,

@@ -15,14 +15,20 @@ use crate::consistency;
 // How many inadmissible heuristics (guide sheets) a call may have.
 const MAX_GUIDES: u32 = 8;
 
-// Row 8: start or goal is not a vertex.
-fn ends_fail(start: u32, goal: u32, vertices: u32) -> bool
-    ensures { λ r. ⌜ r ≡ not (ltb start vertices && ltb goal vertices) ⌝ }
+// The number that bars all classes, 0 to 7.
+const MAX_BARRED: u32 = 255;
+
+// Row 8: start or goal is not a vertex, or the number of the barred classes is above 255.
+fn ends_fail(start: u32, goal: u32, barred: u32, vertices: u32) -> bool
+    ensures { λ r. ⌜ r ≡ (not (ltb start vertices && ltb goal vertices) || ltb 255 barred) ⌝ }
 {
     if vertices <= start {
         return true;
     }
-    !(goal < vertices)
+    if vertices <= goal {
+        return true;
+    }
+    MAX_BARRED < barred
 }
 
 // Row 9, by the tables' lengths: over 8 guides, or tables not V numbers each.
@@ -39,15 +45,15 @@ fn tables_fail(vertices: u32, anchor: usize, guides: usize, guide_count: u32) ->
     guides != guide_count as usize * each
 }
 
-// Row 11, by the lengths of route and work memory: route under V words, or work under 5V+1+2M.
+// Row 11, by the lengths of route and work memory: route under V words, or work under 5V+1+3M.
 fn memory_fails(vertices: u32, edges: u32, lengths: Lengths) -> bool
-    ensures { λ r. ⌜ r ≡ (ltb (lengths .route) vertices || ltb (lengths .work) (5 * vertices + 1 + 2 * edges)) ⌝ }
+    ensures { λ r. ⌜ r ≡ (ltb (lengths .route) vertices || ltb (lengths .work) (5 * vertices + 1 + 3 * edges)) ⌝ }
 {
     let v = vertices as usize;
     if lengths.route < v {
         return true;
     }
-    lengths.work < 5 * v + 1 + 2 * edges as usize
+    lengths.work < 5 * v + 1 + 3 * edges as usize
 }
 
 // The rows of a call whose plan was checked.
@@ -68,7 +74,7 @@ pub fn call_verdict(
 {
     let start = q.start;
     let goal = q.goal;
-    if ends_fail(start, goal, vertices) {
+    if ends_fail(start, goal, q.barred, vertices) {
         return Verdict::Refused(8, 0);
     }
     if tables_fail(vertices, anchor.len(), guides.len(), q.guides) {

@@ -59,7 +59,7 @@ anchor-verdict-requires c κs =
       b .pre .1,
       (
         tables-hold (a .q .guides) (length (a .anchor .now)) (a .vertices) (length (a .guides .now)) _ (t .tables-fail .ensures) (s .before .if2 .left),
-        ends-hold (a .q .start) (a .q .goal) (a .vertices) _ (e .ends-fail .ensures) (t .before .if1 .left),
+        ends-hold (a .q .start) (a .q .goal) (a .q .barred) (a .vertices) _ (e .ends-fail .ensures) (t .before .if1 .left),
       ),
     )
 
