@@ -1,4 +1,4 @@
--- Laws of laying: bytes one after another, an edge's three numbers, and edges one by one.
+-- Laws of laying: bytes one after another, an edge's four numbers, and edges one by one.
 use Prim.Native.Nat.{ℕ, suc, _+_, _-_, _^_, _≤_, _<_}
 use native.Mathlib.Omega.{arith}
 use mathlib.Core.Path.{_≡_, refl, sym, ap, _∙_, subst}
@@ -69,13 +69,16 @@ module _ {s : List ℕ} {at : ℕ} {b s′ : List ℕ} {at′ : ℕ} (d : Laid s
         offset = omega (arith, d .offset, length-append b (encode planGroups v));
       }
 
--- an edge's three numbers
+-- an edge's four numbers
 module _ {s : List ℕ} {at t : ℕ} {e : Edge} (f : EdgeFits s at t e) where
   abbrev rise : List ℕ
   rise = encode planGroups (e .tail - t)
 
   abbrev toHead : List ℕ
   toHead = rise ++ encode planGroups (e .head)
+
+  abbrev toCost : List ℕ
+  toCost = toHead ++ encode planGroups (e .cost)
 
   pub rise-small : e .tail - t < 128 ^ planGroups
   unfolding planGroups
@@ -87,43 +90,55 @@ module _ {s : List ℕ} {at t : ℕ} {e : Edge} (f : EdgeFits s at t e) where
   pub head-room : at + length toHead ≤ length s
   head-room = omega (arith, f .room, edge-length t e, length-append rise (encode planGroups (e .head)))
 
-  pub cost-room : at + length (toHead ++ encode planGroups (e .cost)) ≤ length s
+  pub cost-room : at + length toCost ≤ length s
+  cost-room =
+      omega (
+        arith,
+        f .room,
+        edge-length t e,
+        length-append rise (encode planGroups (e .head)),
+        length-append toHead (encode planGroups (e .cost)),
+      )
+
+  all-bytes : toCost ++ encode planGroups (e .class) ≡ edgeBytes t e
   unfolding edgeBytes
-  cost-room = rw append-assoc (f .room)
+  all-bytes = simp append-assoc
+
+  pub class-room : at + length (toCost ++ encode planGroups (e .class)) ≤ length s
+  class-room = rw all-bytes (f .room)
 
   pub edge-laid :
-      {s′ : List ℕ} {n : ℕ} → Laid s at (toHead ++ encode planGroups (e .cost)) s′ n →
+      {s′ : List ℕ} {n : ℕ} → Laid s at (toCost ++ encode planGroups (e .class)) s′ n →
       (n ≡ at + length (edgeBytes t e)) × (s′ ≡ sets s at (edgeBytes t e))
-  unfolding edgeBytes
-  edge-laid d = (rw append-assoc at (d .offset), rw append-assoc at (d .memory))
+  edge-laid d = (d .offset ∙ ap (λ (l : List ℕ). at + length l) all-bytes, d .memory ∙ ap (sets s at) all-bytes)
 
 -- ---- all edges laid
 
 -- the loop over the edges: laying the rest from here gives what laying all gives
-pub record Laying (ts hs cs out₀ : List ℕ) (start : ℕ) (out : List ℕ) (at last i : ℕ) : Type 0 where
-  pub layable : Layable last (rest ts hs cs i)
+pub record Laying (ts hs cs ks out₀ : List ℕ) (start : ℕ) (out : List ℕ) (at last i : ℕ) : Type 0 where
+  pub layable : Layable last (rest ts hs cs ks i)
   pub kept : length out ≡ length out₀
-  pub room : at + length (edgesBytes last (rest ts hs cs i)) ≤ length out₀
-  pub same : sets out at (edgesBytes last (rest ts hs cs i)) ≡ sets out₀ start (edgesBytes 0 (edgesOf ts hs cs))
+  pub room : at + length (edgesBytes last (rest ts hs cs ks i)) ≤ length out₀
+  pub same : sets out at (edgesBytes last (rest ts hs cs ks i)) ≡ sets out₀ start (edgesBytes 0 (edgesOf ts hs cs ks))
 
-pub laying-first : (ts hs cs out : List ℕ) (start : ℕ) → EdgesFit out start ts hs cs → Laying ts hs cs out start out start 0 0
-laying-first ts hs cs out start f = record { layable = f .layable; kept = refl; room = f .room; same = refl }
+pub laying-first : (ts hs cs ks out : List ℕ) (start : ℕ) → EdgesFit out start ts hs cs ks → Laying ts hs cs ks out start out start 0 0
+laying-first ts hs cs ks out start f = record { layable = f .layable; kept = refl; room = f .room; same = refl }
 
-module _ {ts hs cs out₀ : List ℕ} {start : ℕ} {out : List ℕ} {at last i : ℕ} (y : Laying ts hs cs out₀ start out at last i) where
-  pub laying-end : length ts ≤ i → out ≡ sets out₀ start (edgesBytes 0 (edgesOf ts hs cs))
+module _ {ts hs cs ks out₀ : List ℕ} {start : ℕ} {out : List ℕ} {at last i : ℕ} (y : Laying ts hs cs ks out₀ start out at last i) where
+  pub laying-end : length ts ≤ i → out ≡ sets out₀ start (edgesBytes 0 (edgesOf ts hs cs ks))
   unfolding edgesBytes
-  laying-end h = ap (λ (es : List Edge). sets out at (edgesBytes last es)) (sym (rest-end ts hs cs i h)) ∙ y .same
+  laying-end h = ap (λ (es : List Edge). sets out at (edgesBytes last es)) (sym (rest-end ts hs cs ks i h)) ∙ y .same
 
-  module _ (q : Equal ts hs cs) (h : i < length ts) {e : Edge} (g : e ≡ edgeAt ts hs cs i) where
+  module _ (q : Equal ts hs cs ks) (h : i < length ts) {e : Edge} (g : e ≡ edgeAt ts hs cs ks i) where
     abbrev others : List ℕ
-    others = edgesBytes (e .tail) (rest ts hs cs (i + 1))
+    others = edgesBytes (e .tail) (rest ts hs cs ks (i + 1))
 
-    next-layable : LayableEdge last e × Layable (e .tail) (rest ts hs cs (i + 1))
-    next-layable = subst (Layable last) (rest-is ts hs cs i q h e g) (y .layable)
+    next-layable : LayableEdge last e × Layable (e .tail) (rest ts hs cs ks (i + 1))
+    next-layable = subst (Layable last) (rest-is ts hs cs ks i q h e g) (y .layable)
 
-    next-bytes : edgesBytes last (rest ts hs cs i) ≡ edgeBytes last e ++ others
+    next-bytes : edgesBytes last (rest ts hs cs ks i) ≡ edgeBytes last e ++ others
     unfolding edgesBytes
-    next-bytes = ap (edgesBytes last) (rest-is ts hs cs i q h e g)
+    next-bytes = ap (edgesBytes last) (rest-is ts hs cs ks i q h e g)
 
     next-length : at + length (edgeBytes last e) + length others ≤ length out₀
     next-length = omega (arith, y .room, ap length next-bytes, length-append (edgeBytes last e) others)
@@ -133,7 +148,7 @@ module _ {ts hs cs out₀ : List ℕ} {start : ℕ} {out : List ℕ} {at last i 
 
     pub laying-next :
         {out′ : List ℕ} {at′ : ℕ} → at′ ≡ at + length (edgeBytes last e) → out′ ≡ sets out at (edgeBytes last e) →
-        Laying ts hs cs out₀ start out′ at′ (e .tail) (i + 1)
+        Laying ts hs cs ks out₀ start out′ at′ (e .tail) (i + 1)
     laying-next {out′} {at′} a b =
         record {
           layable = next-layable .1;

@@ -11,7 +11,7 @@ use lib.Seq.{drop-cons}
 use lib.Dec.{ltb, eqb}
 use borrow.Author.Tests.{ltb-false, lt-ltb, le-ltb, le-leb, lt-leb, eq-eqb, ne-eqb}
 use Rattle.leb128.specs.Number.{encode, planGroups}
-use Rattle.leb128.proofs.Laws.{split, encode-few}
+use Rattle.leb128.proofs.Laws.{split, encode-last, encode-few}
 use Rattle.graph.specs.declared.Edge.{Edge}
 use Rattle.graph.specs.declared.Cursor.{Cursor}
 use Rattle.graph.specs.declared.EdgeRead.{EdgeRead}
@@ -20,14 +20,14 @@ use Rattle.graph.specs.declared.EdgeRead.the-variants as edgeRead
 use Rattle.graph.specs.declared.PlanWritten.{PlanWritten}
 use Rattle.graph.specs.declared.PlanWritten.the-variants.{Count}
 use Rattle.graph.specs.declared.PlanWritten.the-variants as planWritten
-use Rattle.graph.specs.Limits.{maxCost}
+use Rattle.graph.specs.Limits.{maxCost, maxClass}
 use Rattle.graph.specs.Rows.{Row, through}
 use Rattle.graph.specs.Plan.{past, firstAt}
 use Rattle.graph.specs.Lists.{fault, edgesOf, edgeRows, edgesFault, edgeBytes, edgesBytes}
 use Rattle.plan_writer.specs.Writing.{Equal, edgeAt, falls, edgeMeasured, measured, edgesMeasured}
 use Rattle.graph.proofs.Tests.{or-left}
 use Rattle.graph.proofs.Rows.{through-clear}
-use Rattle.graph.proofs.OneEdge.{next≢fault}
+use Rattle.graph.proofs.OneEdge.{next≢fault, passes-within}
 
 -- ---- row 6
 
@@ -74,13 +74,18 @@ module _ (c : Cursor) (e : Edge) where
 -- the bytes of an edge, counted
 pub edge-length :
     (t : ℕ) (e : Edge) →
-    length (edgeBytes t e) ≡ length (encode planGroups (e .tail - t)) + length (encode planGroups (e .head)) + length (encode planGroups (e .cost))
+    length (edgeBytes t e)
+    ≡ length (encode planGroups (e .tail - t)) + length (encode planGroups (e .head)) + length (encode planGroups (e .cost))
+    + length (encode planGroups (e .class))
 unfolding edgeBytes
 edge-length t e = simp length-append (omega arith)
 
-pub edge-few : (t : ℕ) (e : Edge) → length (edgeBytes t e) ≤ 9
+-- a class has one byte
+pub edge-few : (t : ℕ) (e : Edge) → e .class ≤ maxClass → length (edgeBytes t e) ≤ 10
 unfolding planGroups
-edge-few t e = omega (arith, edge-length t e, encode-few 3 (e .tail - t), encode-few 3 (e .head), encode-few 3 (e .cost))
+edge-few t e k =
+    let one : length (encode planGroups (e .class)) ≡ 1 = ap length (encode-last 2 (e .class) (omega arith)) in
+    omega (arith, edge-length t e, encode-few 3 (e .tail - t), encode-few 3 (e .head), encode-few 3 (e .cost))
 
 module _ (v : ℕ) (c : Cursor) (i : ℕ) (e : Edge) where
   pub tail-refused : v ≤ e .tail → edgeRead.Refused 4 i ≡ edgeMeasured v c i e
@@ -99,31 +104,39 @@ module _ (v : ℕ) (c : Cursor) (i : ℕ) (e : Edge) where
   unfolding edgeMeasured edgeRows through falls
   cost-refused t h f k = simp (lt-leb v (e .tail) t, lt-leb v (e .head) h, f, lt-ltb maxCost (e .cost) k)
 
+  pub class-refused :
+      e .tail < v → e .head < v → falls c e ≡ false → e .cost ≤ maxCost → maxClass < e .class → edgeRead.Refused 15 i ≡ edgeMeasured v c i e
+  unfolding edgeMeasured edgeRows through falls
+  class-refused t h f k l =
+      simp (lt-leb v (e .tail) t, lt-leb v (e .head) h, f, le-ltb maxCost (e .cost) k, lt-ltb maxClass (e .class) l)
+
   pub edge-passed :
-      (x y z : ℕ) → x ≡ length (encode planGroups (e .tail - c .tail)) → y ≡ length (encode planGroups (e .head)) →
-      z ≡ length (encode planGroups (e .cost)) → e .tail < v → e .head < v → falls c e ≡ false → e .cost ≤ maxCost →
-      Next e (record { at = c .at + (x + y + z); tail = e .tail; least = e .head + 1 }) ≡ edgeMeasured v c i e
+      (w x y z : ℕ) → w ≡ length (encode planGroups (e .tail - c .tail)) → x ≡ length (encode planGroups (e .head)) →
+      y ≡ length (encode planGroups (e .cost)) → z ≡ length (encode planGroups (e .class)) →
+      e .tail < v → e .head < v → falls c e ≡ false → e .cost ≤ maxCost → e .class ≤ maxClass →
+      Next e (record { at = c .at + (w + x + y + z); tail = e .tail; least = e .head + 1 }) ≡ edgeMeasured v c i e
   unfolding edgeMeasured edgeRows through falls past
-  edge-passed x y z p q r t h f k =
-      let n : x + y + z ≡ length (edgeBytes (c .tail) e) = omega (arith, edge-length (c .tail) e) in
-      simp (lt-leb v (e .tail) t, lt-leb v (e .head) h, f, le-ltb maxCost (e .cost) k, n)
+  edge-passed w x y z o p q r t h f k l =
+      let n : w + x + y + z ≡ length (edgeBytes (c .tail) e) = omega (arith, edge-length (c .tail) e) in
+      simp (lt-leb v (e .tail) t, lt-leb v (e .head) h, f, le-ltb maxCost (e .cost) k, le-ltb maxClass (e .class) l, n)
 
--- ---- the edges of three lists, one by one
+-- ---- the edges of four lists, one by one
 
-module _ (ts hs cs : List ℕ) where
+module _ (ts hs cs ks : List ℕ) where
   -- the edges from number i on
   abbrev pub rest : ℕ → List Edge
-  rest i = edgesOf (drop i ts) (drop i hs) (drop i cs)
+  rest i = edgesOf (drop i ts) (drop i hs) (drop i cs) (drop i ks)
 
-  pub rest-next : (i : ℕ) → Equal ts hs cs → i < length ts → rest i ≡ edgeAt ts hs cs i ∷ rest (i + 1)
+  pub rest-next : (i : ℕ) → Equal ts hs cs ks → i < length ts → rest i ≡ edgeAt ts hs cs ks i ∷ rest (i + 1)
   unfolding edgesOf
   rest-next i q h =
       let a : i < length hs = omega (arith, q .heads) in
       let b : i < length cs = omega (arith, q .costs) in
-      rw (add-one, drop-cons ts i 0 h, drop-cons hs i 0 a, drop-cons cs i 0 b)
+      let d : i < length ks = omega (arith, q .classes) in
+      rw (add-one, drop-cons ts i 0 h, drop-cons hs i 0 a, drop-cons cs i 0 b, drop-cons ks i 0 d)
 
   pub rest-is :
-      (i : ℕ) → Equal ts hs cs → i < length ts → (e : Edge) → e ≡ edgeAt ts hs cs i → rest i ≡ e ∷ rest (i + 1)
+      (i : ℕ) → Equal ts hs cs ks → i < length ts → (e : Edge) → e ≡ edgeAt ts hs cs ks i → rest i ≡ e ∷ rest (i + 1)
   rest-is i q h e g = rest-next i q h ∙ ap (λ (d : Edge). d ∷ rest (i + 1)) (sym g)
 
   pub rest-end : (i : ℕ) → length ts ≤ i → rest i ≡ []
@@ -172,44 +185,44 @@ module _ (v : ℕ) (c : Cursor) (i : ℕ) (e : Edge) (es : List Edge) where
   unfolding measuredOn
   measured-refused n p h = measured-step ∙ ap (measuredOn (λ (d : Cursor). edgesMeasured v d (i + 1) es)) h
 
-pub measured-few : (v : ℕ) (c : Cursor) (i : ℕ) (e d : Edge) (c′ : Cursor) → edgeMeasured v c i e ≡ Next d c′ → c′ .at ≤ c .at + 9
+pub measured-few : (v : ℕ) (c : Cursor) (i : ℕ) (e d : Edge) (c′ : Cursor) → edgeMeasured v c i e ≡ Next d c′ → c′ .at ≤ c .at + 10
 unfolding edgeMeasured past
 measured-few v c i e d c′ h =
     let q = through-clear (λ (x : EdgeRead). x ≡ Next d c′) (λ n. edgeRead.Refused n i) (λ n. next≢fault) (edgeRows v (c .tail) (c .least) e) _ h in
     let k : past e (c .at + length (edgeBytes (c .tail) e)) ≡ c′ = cc (q .1) in
-    omega (arith, ap (λ (x : Cursor). x .at) k, edge-few (c .tail) e)
+    omega (arith, ap (λ (x : Cursor). x .at) k, edge-few (c .tail) e (passes-within v (c .tail) (c .least) e (q .0) .class))
 
 pub measured-end : (v : ℕ) (c : Cursor) (i : ℕ) → Count (c .at) ≡ edgesMeasured v c i []
 unfolding edgesMeasured measured edgesFault edgesBytes
 measured-end v c i = ap Count (omega arith)
 
 -- the loop over the edges: the cursor before edge i counts the bytes so far, and the rest from there is the whole from the start
-pub record Measuring (v : ℕ) (ts hs cs : List ℕ) (start : ℕ) (c : Cursor) (i : ℕ) : Type 0 where
-  pub few : c .at ≤ start + 9 * i
-  pub same : edgesMeasured v c i (rest ts hs cs i) ≡ edgesMeasured v (firstAt start) 0 (edgesOf ts hs cs)
+pub record Measuring (v : ℕ) (ts hs cs ks : List ℕ) (start : ℕ) (c : Cursor) (i : ℕ) : Type 0 where
+  pub few : c .at ≤ start + 10 * i
+  pub same : edgesMeasured v c i (rest ts hs cs ks i) ≡ edgesMeasured v (firstAt start) 0 (edgesOf ts hs cs ks)
 
-pub measuring-first : (v : ℕ) (ts hs cs : List ℕ) (start : ℕ) (c : Cursor) → c ≡ firstAt start → Measuring v ts hs cs start c 0
-measuring-first v ts hs cs start c e =
+pub measuring-first : (v : ℕ) (ts hs cs ks : List ℕ) (start : ℕ) (c : Cursor) → c ≡ firstAt start → Measuring v ts hs cs ks start c 0
+measuring-first v ts hs cs ks start c e =
     record {
       few = omega (arith, ap (λ (x : Cursor). x .at) e);
-      same = ap (λ (x : Cursor). edgesMeasured v x 0 (edgesOf ts hs cs)) e;
+      same = ap (λ (x : Cursor). edgesMeasured v x 0 (edgesOf ts hs cs ks)) e;
     }
 
-module _ {v : ℕ} {ts hs cs : List ℕ} {start : ℕ} {c : Cursor} {i : ℕ} (m : Measuring v ts hs cs start c i) where
-  pub measuring-end : length ts ≤ i → Count (c .at) ≡ edgesMeasured v (firstAt start) 0 (edgesOf ts hs cs)
-  measuring-end h = measured-end v c i ∙ ap (edgesMeasured v c i) (sym (rest-end ts hs cs i h)) ∙ m .same
+module _ {v : ℕ} {ts hs cs ks : List ℕ} {start : ℕ} {c : Cursor} {i : ℕ} (m : Measuring v ts hs cs ks start c i) where
+  pub measuring-end : length ts ≤ i → Count (c .at) ≡ edgesMeasured v (firstAt start) 0 (edgesOf ts hs cs ks)
+  measuring-end h = measured-end v c i ∙ ap (edgesMeasured v c i) (sym (rest-end ts hs cs ks i h)) ∙ m .same
 
-  module _ (q : Equal ts hs cs) (h : i < length ts) {e : Edge} (g : e ≡ edgeAt ts hs cs i) where
-    whole : edgesMeasured v c i (e ∷ rest ts hs cs (i + 1)) ≡ edgesMeasured v (firstAt start) 0 (edgesOf ts hs cs)
-    whole = ap (edgesMeasured v c i) (sym (rest-is ts hs cs i q h e g)) ∙ m .same
+  module _ (q : Equal ts hs cs ks) (h : i < length ts) {e : Edge} (g : e ≡ edgeAt ts hs cs ks i) where
+    whole : edgesMeasured v c i (e ∷ rest ts hs cs ks (i + 1)) ≡ edgesMeasured v (firstAt start) 0 (edgesOf ts hs cs ks)
+    whole = ap (edgesMeasured v c i) (sym (rest-is ts hs cs ks i q h e g)) ∙ m .same
 
     pub measuring-refused :
-        {n p : ℕ} → edgeMeasured v c i e ≡ edgeRead.Refused n p → planWritten.Refused n p ≡ edgesMeasured v (firstAt start) 0 (edgesOf ts hs cs)
-    measuring-refused {n} {p} k = sym (measured-refused v c i e (rest ts hs cs (i + 1)) n p k) ∙ whole
+        {n p : ℕ} → edgeMeasured v c i e ≡ edgeRead.Refused n p → planWritten.Refused n p ≡ edgesMeasured v (firstAt start) 0 (edgesOf ts hs cs ks)
+    measuring-refused {n} {p} k = sym (measured-refused v c i e (rest ts hs cs ks (i + 1)) n p k) ∙ whole
 
-    pub measuring-next : {d : Edge} {c′ : Cursor} → edgeMeasured v c i e ≡ Next d c′ → Measuring v ts hs cs start c′ (i + 1)
+    pub measuring-next : {d : Edge} {c′ : Cursor} → edgeMeasured v c i e ≡ Next d c′ → Measuring v ts hs cs ks start c′ (i + 1)
     measuring-next {d} {c′} k =
         record {
           few = omega (arith, m .few, measured-few v c i e d c′ k);
-          same = sym (measured-next v c i e (rest ts hs cs (i + 1)) d c′ k) ∙ whole;
+          same = sym (measured-next v c i e (rest ts hs cs ks (i + 1)) d c′ k) ∙ whole;
         }

@@ -26,32 +26,32 @@ use Rattle.plan_writer.proofs.Laying.{sets-append, Laid}
 
 -- ---- V and the lists measured
 
--- three equal lists have as many edges as each is long
-pub edges-count : (ts hs cs : List ℕ) → Equal ts hs cs → length (edgesOf ts hs cs) ≡ length ts
-edges-count ts hs cs q =
-    sym (length-map (edgesOf ts hs cs) (λ (e : Edge). e .tail)) ∙ ap length (columns ts hs cs (q .heads) (q .costs) .tails-are)
+-- four equal lists have as many edges as each is long
+pub edges-count : (ts hs cs ks : List ℕ) → Equal ts hs cs ks → length (edgesOf ts hs cs ks) ≡ length ts
+edges-count ts hs cs ks q =
+    sym (length-map (edgesOf ts hs cs ks) (λ (e : Edge). e .tail)) ∙ ap length (columns ts hs cs ks (q .heads) (q .costs) (q .classes) .tails-are)
 
-module _ (v : ℕ) (ts hs cs : List ℕ) where
-  pub none-refused : v ≡ 0 → Refused 2 0 ≡ planMeasured v ts hs cs
+module _ (v : ℕ) (ts hs cs ks : List ℕ) where
+  pub none-refused : v ≡ 0 → Refused 2 0 ≡ planMeasured v ts hs cs ks
   unfolding planMeasured measured writeFault vertexCountRows through
   none-refused h = simp (eq-eqb v 0 h)
 
-  pub many-refused : maxVertices < v → Refused 2 0 ≡ planMeasured v ts hs cs
+  pub many-refused : maxVertices < v → Refused 2 0 ≡ planMeasured v ts hs cs ks
   unfolding planMeasured measured writeFault vertexCountRows through
   many-refused h = simp (ne-eqb v 0 (λ e. omega arith), lt-ltb maxVertices v h)
 
   module _ (some : v ≡ 0 → ⊥) (few : v ≤ maxVertices) where
-    pub long-refused : maxEdges < length ts → Refused 3 0 ≡ planMeasured v ts hs cs
+    pub long-refused : maxEdges < length ts → Refused 3 0 ≡ planMeasured v ts hs cs ks
     unfolding planMeasured measured writeFault vertexCountRows listRows through
     long-refused h = simp (ne-eqb v 0 some, le-ltb maxVertices v few, lt-ltb maxEdges (length ts) h)
 
     module _ (short : length ts ≤ maxEdges) where
-      pub heads-refused : (length hs ≡ length ts → ⊥) → Refused 3 0 ≡ planMeasured v ts hs cs
+      pub heads-refused : (length hs ≡ length ts → ⊥) → Refused 3 0 ≡ planMeasured v ts hs cs ks
       unfolding planMeasured measured writeFault vertexCountRows listRows through
       heads-refused h =
           simp (ne-eqb v 0 some, le-ltb maxVertices v few, le-ltb maxEdges (length ts) short, ne-eqb (length hs) (length ts) h)
 
-      pub costs-refused : length hs ≡ length ts → (length cs ≡ length ts → ⊥) → Refused 3 0 ≡ planMeasured v ts hs cs
+      pub costs-refused : length hs ≡ length ts → (length cs ≡ length ts → ⊥) → Refused 3 0 ≡ planMeasured v ts hs cs ks
       unfolding planMeasured measured writeFault vertexCountRows listRows through
       costs-refused e h =
           simp (
@@ -62,17 +62,30 @@ module _ (v : ℕ) (ts hs cs : List ℕ) where
             ne-eqb (length cs) (length ts) h,
           )
 
+      pub classes-refused :
+          length hs ≡ length ts → length cs ≡ length ts → (length ks ≡ length ts → ⊥) → Refused 3 0 ≡ planMeasured v ts hs cs ks
+      unfolding planMeasured measured writeFault vertexCountRows listRows through
+      classes-refused e f h =
+          simp (
+            ne-eqb v 0 some,
+            le-ltb maxVertices v few,
+            le-ltb maxEdges (length ts) short,
+            eq-eqb (length hs) (length ts) e,
+            eq-eqb (length cs) (length ts) f,
+            ne-eqb (length ks) (length ts) h,
+          )
+
       pub all-measured :
-          (start : ℕ) → Equal ts hs cs → start ≡ length (encode planGroups v) + length (encode planGroups (length ts)) →
-          edgesMeasured v (firstAt start) 0 (edgesOf ts hs cs) ≡ planMeasured v ts hs cs
+          (start : ℕ) → Equal ts hs cs ks → start ≡ length (encode planGroups v) + length (encode planGroups (length ts)) →
+          edgesMeasured v (firstAt start) 0 (edgesOf ts hs cs ks) ≡ planMeasured v ts hs cs ks
       unfolding planMeasured edgesMeasured writeFault vertexCountRows listRows through bytesOf
       all-measured start q e =
-          let n : start + length (edgesBytes 0 (edgesOf ts hs cs)) ≡ length (bytesOf v (edgesOf ts hs cs))
+          let n : start + length (edgesBytes 0 (edgesOf ts hs cs ks)) ≡ length (bytesOf v (edgesOf ts hs cs ks))
           = omega (
             arith,
-            ap (λ (k : ℕ). length (encode planGroups k)) (edges-count ts hs cs q),
-            length-append (encode planGroups v) (encode planGroups (length (edgesOf ts hs cs)) ++ edgesBytes 0 (edgesOf ts hs cs)),
-            length-append (encode planGroups (length (edgesOf ts hs cs))) (edgesBytes 0 (edgesOf ts hs cs)),
+            ap (λ (k : ℕ). length (encode planGroups k)) (edges-count ts hs cs ks q),
+            length-append (encode planGroups v) (encode planGroups (length (edgesOf ts hs cs ks)) ++ edgesBytes 0 (edgesOf ts hs cs ks)),
+            length-append (encode planGroups (length (edgesOf ts hs cs ks))) (edgesBytes 0 (edgesOf ts hs cs ks)),
           ) in
           simp (
             ne-eqb v 0 some,
@@ -80,6 +93,7 @@ module _ (v : ℕ) (ts hs cs : List ℕ) where
             le-ltb maxEdges (length ts) short,
             eq-eqb (length hs) (length ts) (q .heads),
             eq-eqb (length cs) (length ts) (q .costs),
+            eq-eqb (length ks) (length ts) (q .classes),
             n,
           )
 
@@ -94,6 +108,7 @@ passed-layable v t l e few p =
       tail = omega (arith, w .tail);
       head = omega (arith, w .head);
       cost = omega (arith, w .cost);
+      class = omega (arith, w .class);
     }
 
 pub passed-edges : (v : ℕ) → v ≤ maxVertices → (es : List Edge) (t l i : ℕ) → edgesFault v t l i es ≡ none → Layable t es
@@ -102,23 +117,23 @@ passed-edges v few (e ∷ es) t l i h =
     let q = edge-clear v t l i e es h in
     (passed-layable v t l e few (q .0), passed-edges v few es (e .tail) (e .head + 1) (suc i) (q .1))
 
-module _ {v : ℕ} {ts hs cs out : List ℕ} (f : PlanFits out v ts hs cs) where
+module _ {v : ℕ} {ts hs cs ks out : List ℕ} (f : PlanFits out v ts hs cs ks) where
   abbrev es : List Edge
-  es = edgesOf ts hs cs
+  es = edgesOf ts hs cs ks
 
   abbrev headerBytes : List ℕ
   headerBytes = encode planGroups v ++ encode planGroups (length ts)
 
-  pub taken : Takes v ts hs cs
-  taken = takes v ts hs cs (f .passes)
+  pub taken : Takes v ts hs cs ks
+  taken = takes v ts hs cs ks (f .passes)
 
-  lists-equal : Equal ts hs cs
-  lists-equal = record { heads = taken .heads-equal; costs = taken .costs-equal }
+  lists-equal : Equal ts hs cs ks
+  lists-equal = record { heads = taken .heads-equal; costs = taken .costs-equal; classes = taken .classes-equal }
 
   plan-bytes : bytesOf v es ≡ headerBytes ++ edgesBytes 0 es
   unfolding bytesOf
   plan-bytes =
-      ap (λ (n : ℕ). encode planGroups v ++ (encode planGroups n ++ edgesBytes 0 es)) (edges-count ts hs cs lists-equal)
+      ap (λ (n : ℕ). encode planGroups v ++ (encode planGroups n ++ edgesBytes 0 es)) (edges-count ts hs cs ks lists-equal)
       ∙ sym (append-assoc (encode planGroups v) (encode planGroups (length ts)) (edgesBytes 0 es))
 
   plan-length : length headerBytes + length (edgesBytes 0 es) ≤ length out
@@ -139,7 +154,7 @@ module _ {v : ℕ} {ts hs cs out : List ℕ} (f : PlanFits out v ts hs cs) where
   count-room = omega (arith, plan-length)
 
   module _ {s : List ℕ} {at : ℕ} (d : Laid out 0 headerBytes s at) where
-    pub edges-fit : EdgesFit s at ts hs cs
+    pub edges-fit : EdgesFit s at ts hs cs ks
     edges-fit =
         record {
           equal = lists-equal;
@@ -157,7 +172,7 @@ module _ {v : ℕ} {ts hs cs out : List ℕ} (f : PlanFits out v ts hs cs) where
 
 -- ---- the answer, and the output after it
 
-module _ (v : ℕ) (ts hs cs out : List ℕ) where
+module _ (v : ℕ) (ts hs cs ks out : List ℕ) where
   measured-none : (f : Fault) (n size : ℕ) → measured f n ≡ Count size → (f ≡ none) × (n ≡ size)
   unfolding measured
   measured-none none n size e = (refl, cc)
@@ -169,30 +184,30 @@ module _ (v : ℕ) (ts hs cs out : List ℕ) where
   measured-fault (fault k q) bytes n p e = e
 
   abbrev Answers : PlanWritten → List ℕ → Type 0
-  Answers r out′ = (r ≡ writeAnswer v ts hs cs out) × (out′ ≡ outAfter v ts hs cs out r)
+  Answers r out′ = (r ≡ writeAnswer v ts hs cs ks out) × (out′ ≡ outAfter v ts hs cs ks out r)
 
-  pub answers-fault : (r : PlanWritten) (n p : ℕ) → r ≡ planMeasured v ts hs cs → r ≡ Refused n p → Answers r out
+  pub answers-fault : (r : PlanWritten) (n p : ℕ) → r ≡ planMeasured v ts hs cs ks → r ≡ Refused n p → Answers r out
   unfolding planMeasured writeAnswer outAfter
   answers-fault r n p e k = (
-    k ∙ sym (measured-fault (writeFault v ts hs cs) (bytesOf v (edgesOf ts hs cs)) n p (sym e ∙ k)),
-    sym (ap (outAfter v ts hs cs out) k),
+    k ∙ sym (measured-fault (writeFault v ts hs cs ks) (bytesOf v (edgesOf ts hs cs ks)) n p (sym e ∙ k)),
+    sym (ap (outAfter v ts hs cs ks out) k),
   )
 
-  module _ (r : PlanWritten) (size : ℕ) (e : r ≡ planMeasured v ts hs cs) (k : r ≡ Count size) where
-    counted : (writeFault v ts hs cs ≡ none) × (length (bytesOf v (edgesOf ts hs cs)) ≡ size)
+  module _ (r : PlanWritten) (size : ℕ) (e : r ≡ planMeasured v ts hs cs ks) (k : r ≡ Count size) where
+    counted : (writeFault v ts hs cs ks ≡ none) × (length (bytesOf v (edgesOf ts hs cs ks)) ≡ size)
     unfolding planMeasured
-    counted = measured-none (writeFault v ts hs cs) (length (bytesOf v (edgesOf ts hs cs))) size (sym e ∙ k)
+    counted = measured-none (writeFault v ts hs cs ks) (length (bytesOf v (edgesOf ts hs cs ks))) size (sym e ∙ k)
 
-    pub plan-fits : size ≤ length out → PlanFits out v ts hs cs
+    pub plan-fits : size ≤ length out → PlanFits out v ts hs cs ks
     plan-fits h = record { passes = counted .0; room = omega (arith, counted .1) }
 
     -- there is room for the bytes, or not
-    answers-by : (b : Bool) → leb size (length out) ≡ b → cond b (Count size) (Refused 11 0) ≡ writeAnswer v ts hs cs out
+    answers-by : (b : Bool) → leb size (length out) ≡ b → cond b (Count size) (Refused 11 0) ≡ writeAnswer v ts hs cs ks out
     unfolding writeAnswer writtenAs
     answers-by b h = rw (counted .0, counted .1) (ap (λ (t : Bool). cond t (Count size) (Refused 11 0)) (sym h))
 
     pub answers-count :
-        size ≤ length out → (out′ : List ℕ) → out′ ≡ over (bytesOf v (edgesOf ts hs cs)) out → Answers (Count size) out′
+        size ≤ length out → (out′ : List ℕ) → out′ ≡ over (bytesOf v (edgesOf ts hs cs ks)) out → Answers (Count size) out′
     unfolding outAfter
     answers-count h out′ m = (answers-by true (le-leb size (length out) h), m)
 

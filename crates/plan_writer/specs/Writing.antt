@@ -18,14 +18,15 @@ use Rattle.graph.specs.Rows.{through}
 use Rattle.graph.specs.Plan.{past}
 use Rattle.graph.specs.Lists.{Fault as Found, none, fault, edgesOf, edgeRows, edgesFault, writeFault, edgeBytes, edgesBytes, bytesOf}
 
--- three equal lists
-pub record Equal (ts hs cs : List ℕ) : Type 0 where
+-- four equal lists
+pub record Equal (ts hs cs ks : List ℕ) : Type 0 where
   pub heads : length hs ≡ length ts
   pub costs : length cs ≡ length ts
+  pub classes : length ks ≡ length ts
 
--- the edge number i of three lists
-abbrev pub edgeAt : List ℕ → List ℕ → List ℕ → ℕ → Edge
-edgeAt ts hs cs i = record { tail = getD ts i 0; head = getD hs i 0; cost = getD cs i 0 }
+-- the edge number i of four lists
+abbrev pub edgeAt : List ℕ → List ℕ → List ℕ → List ℕ → ℕ → Edge
+edgeAt ts hs cs ks i = record { tail = getD ts i 0; head = getD hs i 0; cost = getD cs i 0; class = getD ks i 0 }
 
 -- row 6 of an edge after a cursor
 unfoldable pub falls : Cursor → Edge → Bool
@@ -46,8 +47,8 @@ unfoldable pub edgesMeasured : ℕ → Cursor → ℕ → List Edge → PlanWrit
 edgesMeasured v c i es = measured (edgesFault v (c .tail) (c .least) i es) (c .at + length (edgesBytes (c .tail) es))
 
 -- V, the lists and all edges through their rows, and the count of bytes
-unfoldable pub planMeasured : ℕ → List ℕ → List ℕ → List ℕ → PlanWritten
-planMeasured v ts hs cs = measured (writeFault v ts hs cs) (length (bytesOf v (edgesOf ts hs cs)))
+unfoldable pub planMeasured : ℕ → List ℕ → List ℕ → List ℕ → List ℕ → PlanWritten
+planMeasured v ts hs cs ks = measured (writeFault v ts hs cs ks) (length (bytesOf v (edgesOf ts hs cs ks)))
 
 -- an edge that may be laid after one with this tail: its tail does not fall, and each of its numbers has a form
 pub record LayableEdge (last : ℕ) (e : Edge) : Type 0 where
@@ -55,6 +56,7 @@ pub record LayableEdge (last : ℕ) (e : Edge) : Type 0 where
   pub tail : e .tail < 128 ^ planGroups
   pub head : e .head < 128 ^ planGroups
   pub cost : e .cost < 128 ^ planGroups
+  pub class : e .class < 128 ^ planGroups
 
 abbrev pub Layable : ℕ → List Edge → Type 0
 Layable last [] = Unit {0}
@@ -65,11 +67,11 @@ pub record EdgeFits (out : List ℕ) (at last : ℕ) (e : Edge) : Type 0 where
   pub layable : LayableEdge last e
   pub room : at + length (edgeBytes last e) ≤ length out
 
-pub record EdgesFit (out : List ℕ) (start : ℕ) (ts hs cs : List ℕ) : Type 0 where
-  pub equal : Equal ts hs cs
-  pub layable : Layable 0 (edgesOf ts hs cs)
-  pub room : start + length (edgesBytes 0 (edgesOf ts hs cs)) ≤ length out
+pub record EdgesFit (out : List ℕ) (start : ℕ) (ts hs cs ks : List ℕ) : Type 0 where
+  pub equal : Equal ts hs cs ks
+  pub layable : Layable 0 (edgesOf ts hs cs ks)
+  pub room : start + length (edgesBytes 0 (edgesOf ts hs cs ks)) ≤ length out
 
-pub record PlanFits (out : List ℕ) (v : ℕ) (ts hs cs : List ℕ) : Type 0 where
-  pub passes : writeFault v ts hs cs ≡ none
-  pub room : length (bytesOf v (edgesOf ts hs cs)) ≤ length out
+pub record PlanFits (out : List ℕ) (v : ℕ) (ts hs cs ks : List ℕ) : Type 0 where
+  pub passes : writeFault v ts hs cs ks ≡ none
+  pub room : length (bytesOf v (edgesOf ts hs cs ks)) ≤ length out

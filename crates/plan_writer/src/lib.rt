@@ -1,4 +1,4 @@
-// Writing plan bytes from V and three lists: a pass that refuses and measures, then a pass that writes.
+// Writing plan bytes from V and four lists: a pass that refuses and measures, then a pass that writes.
 // The cursor is the reader's: the bytes so far, and what the next edge must rise above.
 ghost use mathlib.Core.Path.{_≡_};
 ghost use Prim.Native.Nat.{_+_, _<_, _≤_};
@@ -11,6 +11,7 @@ ghost use Rattle.plan_writer.specs.Writing.{edgeAt, Equal, falls, edgeMe
 use graph::Cursor;
 use graph::Edge;
 use graph::EdgeRead;
+use graph::MAX_CLASS;
 use graph::MAX_COST;
 use graph::MAX_EDGES;
 use graph::MAX_VERTICES;
@@ -18,15 +19,21 @@ use graph::PlanWritten;
 use leb128::NumberWritten;
 use plan_check::cursor;
 
-// The edge number i of three lists.
-fn edge_at(tails: &[u32], heads: &[u32], costs: &[u32], i: usize) -> Edge
-    requires { ⌜ Equal (now tails) (now heads) (now costs) × (i < length (now tails)) ⌝ }
-    ensures { λ r. ⌜ r ≡ edgeAt (now (tails .entry)) (now (heads .entry)) (now (costs .entry)) i ⌝ }
+// The edge number i of four lists.
+fn edge_at(tails: &[u32], heads: &[u32], costs: &[u32], classes: &[u32], i: usize) -> Edge
+    requires { ⌜ Equal (now tails) (now heads) (now costs) (now classes) × (i < length (now tails)) ⌝ }
+    ensures { λ r. ⌜ r ≡ edgeAt (now (tails .entry)) (now (heads .entry)) (now (costs .entry)) (now (classes .entry)) i ⌝ }
 {
     let tail = tails[i];
     let head = heads[i];
     let cost = costs[i];
-    Edge { tail, head, cost }
+    let class = classes[i];
+    Edge {
+        tail,
+        head,
+        cost,
+        class,
+    }
 }
 
 // Does an edge fall behind the one before it: by its tail, or under the same tail by its head? Compared as one number.
@@ -55,10 +62,14 @@ fn measure_edge(vertices: u32, cursor: Cursor, i: usize, edge: Edge) -> EdgeRead
     if MAX_COST < edge.cost {
         return EdgeRead::Refused(5, i);
     }
+    if MAX_CLASS < edge.class {
+        return EdgeRead::Refused(15, i);
+    }
     let rise = leb128_writer::plan_number_len(edge.tail - cursor.tail);
     let size = rise
         + leb128_writer::plan_number_len(edge.head)
-        + leb128_writer::plan_number_len(edge.cost);
+        + leb128_writer::plan_number_len(edge.cost)
+        + leb128_writer::plan_number_len(edge.class);
     let past = Cursor {
         at: cursor.at + size,
         tail: edge.tail,
@@ -73,15 +84,16 @@ fn measure_edges(
     tails: &[u32],
     heads: &[u32],
     costs: &[u32],
+    classes: &[u32],
     start: usize,
 ) -> PlanWritten
-    requires { ⌜ Equal (now tails) (now heads) (now costs) × (length (now tails) ≤ maxEdges) × (start ≤ 6) ⌝ }
-    ensures { λ r. ⌜ r ≡ edgesMeasured vertices (firstAt start) 0 (edgesOf (now (tails .entry)) (now (heads .entry)) (now (costs .entry))) ⌝ }
+    requires { ⌜ Equal (now tails) (now heads) (now costs) (now classes) × (length (now tails) ≤ maxEdges) × (start ≤ 6) ⌝ }
+    ensures { λ r. ⌜ r ≡ edgesMeasured vertices (firstAt start) 0 (edgesOf (now (tails .entry)) (now (heads .entry)) (now (costs .entry)) (now (classes .entry))) ⌝ }
 {
     let mut cursor = cursor::first(start);
     let mut i = 0;
     while i < tails.len() {
-        let edge = edge_at(tails, heads, costs, i);
+        let edge = edge_at(tails, heads, costs, classes, i);
         match measure_edge(vertices, cursor, i, edge) {
             EdgeRead::Next(_, past) => {
                 cursor = past;
@@ -96,8 +108,14 @@ fn measure_edges(
 }
 
 // V and the lists through their rows, and the count of bytes.
-fn measure(vertices: u32, tails: &[u32], heads: &[u32], costs: &[u32]) -> PlanWritten
-    ensures { λ r. ⌜ r ≡ planMeasured vertices (now (tails .entry)) (now (heads .entry)) (now (costs .entry)) ⌝ }
+fn measure(
+    vertices: u32,
+    tails: &[u32],
+    heads: &[u32],
+    costs: &[u32],
+    classes: &[u32],
+) -> PlanWritten
+    ensures { λ r. ⌜ r ≡ planMeasured vertices (now (tails .entry)) (now (heads .entry)) (now (costs .entry)) (now (classes .entry)) ⌝ }
 {
     if vertices == 0 {
         return PlanWritten::Refused(2, 0);
@@ -114,9 +132,12 @@ fn measure(vertices: u32, tails: &[u32], heads: &[u32], costs: &[u32]) -> PlanWr
     if costs.len() != tails.len() {
         return PlanWritten::Refused(3, 0);
     }
+    if classes.len() != tails.len() {
+        return PlanWritten::Refused(3, 0);
+    }
     let count = tails.len() as u32;
     let start = leb128_writer::plan_number_len(vertices) + leb128_writer::plan_number_len(count);
-    measure_edges(vertices, tails, heads, costs, start)
+    measure_edges(vertices, tails, heads, costs, classes, start)
 }
 
 // Writes an edge's bytes after an edge with this tail, and gives the offset past them.
@@ -133,22 +154,34 @@ fn lay_edge(out: &mut [u8], at: usize, tail: u32, edge: Edge) -> usize
     else {
         return at;
     };
-    let NumberWritten::Next(end) = leb128_writer::write_plan_number(out, cost_at, edge.cost) else {
+    let NumberWritten::Next(class_at) = leb128_writer::write_plan_number(out, cost_at, edge.cost)
+    else {
+        return at;
+    };
+    let NumberWritten::Next(end) = leb128_writer::write_plan_number(out, class_at, edge.class)
+    else {
         return at;
     };
     end
 }
 
 // Writes the bytes of all edges from `start` on.
-fn lay_edges(tails: &[u32], heads: &[u32], costs: &[u32], out: &mut [u8], start: usize)
-    requires { ⌜ EdgesFit (now out) start (now tails) (now heads) (now costs) ⌝ }
-    ensures { λ _. ⌜ now (out .exit) ≡ sets (now (out .entry)) start (edgesBytes 0 (edgesOf (now (tails .entry)) (now (heads .entry)) (now (costs .entry)))) ⌝ }
+fn lay_edges(
+    tails: &[u32],
+    heads: &[u32],
+    costs: &[u32],
+    classes: &[u32],
+    out: &mut [u8],
+    start: usize,
+)
+    requires { ⌜ EdgesFit (now out) start (now tails) (now heads) (now costs) (now classes) ⌝ }
+    ensures { λ _. ⌜ now (out .exit) ≡ sets (now (out .entry)) start (edgesBytes 0 (edgesOf (now (tails .entry)) (now (heads .entry)) (now (costs .entry)) (now (classes .entry)))) ⌝ }
 {
     let mut at = start;
     let mut tail = 0;
     let mut i = 0;
     while i < tails.len() {
-        let edge = edge_at(tails, heads, costs, i);
+        let edge = edge_at(tails, heads, costs, classes, i);
         at = lay_edge(out, at, tail, edge);
         tail = edge.tail;
         i += 1;
@@ -156,9 +189,9 @@ fn lay_edges(tails: &[u32], heads: &[u32], costs: &[u32], out: &mut [u8], start:
 }
 
 // Writes the bytes of a plan that has no refusal and has room.
-fn lay(vertices: u32, tails: &[u32], heads: &[u32], costs: &[u32], out: &mut [u8])
-    requires { ⌜ PlanFits (now out) vertices (now tails) (now heads) (now costs) ⌝ }
-    ensures { λ _. ⌜ now (out .exit) ≡ over (bytesOf vertices (edgesOf (now (tails .entry)) (now (heads .entry)) (now (costs .entry)))) (now (out .entry)) ⌝ }
+fn lay(vertices: u32, tails: &[u32], heads: &[u32], costs: &[u32], classes: &[u32], out: &mut [u8])
+    requires { ⌜ PlanFits (now out) vertices (now tails) (now heads) (now costs) (now classes) ⌝ }
+    ensures { λ _. ⌜ now (out .exit) ≡ over (bytesOf vertices (edgesOf (now (tails .entry)) (now (heads .entry)) (now (costs .entry)) (now (classes .entry)))) (now (out .entry)) ⌝ }
 {
     let count = tails.len() as u32;
     let NumberWritten::Next(count_at) = leb128_writer::write_plan_number(out, 0, vertices) else {
@@ -168,7 +201,7 @@ fn lay(vertices: u32, tails: &[u32], heads: &[u32], costs: &[u32], out: &mut [u8
     else {
         return;
     };
-    lay_edges(tails, heads, costs, out, edges_at);
+    lay_edges(tails, heads, costs, classes, out, edges_at);
 }
 
 // Writes a plan: the count of its bytes; or a refusal, number and position, with nothing written.
@@ -177,18 +210,19 @@ pub fn write(
     tails: &[u32],
     heads: &[u32],
     costs: &[u32],
+    classes: &[u32],
     out: &mut [u8],
 ) -> PlanWritten
-    ensures { λ r. ⌜ r ≡ writeAnswer vertices (now (tails .entry)) (now (heads .entry)) (now (costs .entry)) (now (out .entry)) ⌝ }
-    ensures { λ r. ⌜ now (out .exit) ≡ outAfter vertices (now (tails .entry)) (now (heads .entry)) (now (costs .entry)) (now (out .entry)) r ⌝ }
+    ensures { λ r. ⌜ r ≡ writeAnswer vertices (now (tails .entry)) (now (heads .entry)) (now (costs .entry)) (now (classes .entry)) (now (out .entry)) ⌝ }
+    ensures { λ r. ⌜ now (out .exit) ≡ outAfter vertices (now (tails .entry)) (now (heads .entry)) (now (costs .entry)) (now (classes .entry)) (now (out .entry)) r ⌝ }
 {
-    let measured = measure(vertices, tails, heads, costs);
+    let measured = measure(vertices, tails, heads, costs, classes);
     let PlanWritten::Count(size) = measured else {
         return measured;
     };
     if out.len() < size {
         return PlanWritten::Refused(11, 0);
     }
-    lay(vertices, tails, heads, costs, out);
+    lay(vertices, tails, heads, costs, classes, out);
     PlanWritten::Count(size)
 }

@@ -7,7 +7,7 @@ use Rattle.plan_writer.proofs.lay.Statement.{statement}
 use Rattle.plan_writer.proofs.lay.Tie as tie
 
 cast-count : tie.Need-cast-count
-cast-count c = omega (arith, taken (c .before .before .before .before .pre) .edges)
+cast-count c = omega (arith, taken (c .before .before .before .before .before .pre) .edges)
 
 write-plan-number-requires : tie.Need-write-plan-number-requires
 write-plan-number-requires c κs = search needs
@@ -20,7 +20,7 @@ same-length c = search needs
 
 returns : tie.Need-returns
 returns c =
-    let p = c .before .before .before .before .before .before .before .before .before .pre in
+    let p = c .before .before .before .before .before .before .before .before .before .before .pre in
     absurd (laid-never (laid-none _ _) (vertices-small p) (vertices-room p) (c .before .before .before .write-plan-number .ensures) (c .match .keys2))
 
 write-plan-number-requires-2 : tie.Need-write-plan-number-requires-2
@@ -36,7 +36,7 @@ returns-2 : tie.Need-returns-2
 returns-2 c =
     let n = c .before .before .before .before .before .before in
     let w = n .before .before .before .before in
-    let p = w .before .before .before .before .before .before .pre in
+    let p = w .before .before .before .before .before .before .before .pre in
     let v = laid-number (laid-none _ _) (vertices-small p) (vertices-room p) (w .write-plan-number .ensures) (n .count-at .given .1) in
     absurd (laid-never v (count-small p) (count-room p) (c .before .before .before .write-plan-number2 .ensures) (c .match2 .keys2))
 
@@ -44,7 +44,7 @@ lay-edges-requires : tie.Need-lay-edges-requires
 lay-edges-requires c κs =
     let n = c .before .before .before .before .before .before .before .before .before in
     let w = n .before .before .before .before in
-    let p = w .before .before .before .before .before .before .pre in
+    let p = w .before .before .before .before .before .before .before .pre in
     let v = laid-number (laid-none _ _) (vertices-small p) (vertices-room p) (w .write-plan-number .ensures) (n .count-at .given .1) in
     let m = laid-number v (count-small p) (count-room p) (c .before .before .before .before .before .before .write-plan-number2 .ensures) (c .before .before .edges-at .given .1) in
     edges-fit p m
@@ -57,7 +57,7 @@ returns-3 c =
     let w2 = c .before .before .before .before .before .before .before .before .before in
     let n = w2 .before .before .before in
     let w = n .before .before .before .before in
-    let p = w .before .before .before .before .before .before .pre in
+    let p = w .before .before .before .before .before .before .before .pre in
     let v = laid-number (laid-none _ _) (vertices-small p) (vertices-room p) (w .write-plan-number .ensures) (n .count-at .given .1) in
     let m = laid-number v (count-small p) (count-room p) (w2 .write-plan-number2 .ensures) (c .before .before .before .before .before .edges-at .given .1) in
     plan-laid p m (c .before .before .lay-edges .ensures)

@@ -7,19 +7,19 @@ use Rattle.plan_writer.proofs.lay_edges.Statement.{statement}
 use Rattle.plan_writer.proofs.lay_edges.Tie as tie
 
 abbrev Inv-loop : tie.InvT-loop
-Inv-loop tails heads costs out₀ start at₀ tail₀ i₀ out at tail i = (i ≤ length tails) × Laying tails heads costs out₀ start out at tail i
+Inv-loop tails heads costs classes out₀ start at₀ tail₀ i₀ out at tail i = (i ≤ length tails) × Laying tails heads costs classes out₀ start out at tail i
 
 abbrev μ-loop : tie.MeasureT-loop
-μ-loop tails heads costs out₀ start at₀ tail₀ i₀ out at tail i = length tails - i
+μ-loop tails heads costs classes out₀ start at₀ tail₀ i₀ out at tail i = length tails - i
 
 loop-holds : tie.Need-loop-holds Inv-loop μ-loop
-loop-holds c = (search needs, laying-first _ _ _ _ _ (c .before .before .before .before .pre))
+loop-holds c = (search needs, laying-first _ _ _ _ _ _ (c .before .before .before .before .before .pre))
 
 edge-at-requires : tie.Need-edge-at-requires Inv-loop μ-loop
-edge-at-requires c κs = (c .before .before .before .before .before .before .pre .equal, c .loop-test .taken)
+edge-at-requires c κs = (c .before .before .before .before .before .before .before .pre .equal, c .loop-test .taken)
 
 lay-edge-requires : tie.Need-lay-edge-requires Inv-loop μ-loop
-lay-edge-requires c κs = edge-fits (c .before .before .before .loop .inv .1) (c .before .before .before .before .before .before .before .before .pre .equal) (c .before .before .loop-test .taken) (c .before .edge-at .ensures)
+lay-edge-requires c κs = edge-fits (c .before .before .before .loop .inv .1) (c .before .before .before .before .before .before .before .before .before .pre .equal) (c .before .before .loop-test .taken) (c .before .edge-at .ensures)
 
 add-i : tie.Need-add-i Inv-loop μ-loop
 add-i c = search needs
@@ -32,7 +32,7 @@ loop-again c =
     let k = c .before .before .before .before .before .before in
     let e = c .before .before .lay-edge .ensures in (
       search needs,
-      laying-next (k .loop .inv .1) (k .before .before .before .before .before .pre .equal) (c .before .before .before .before .before .loop-test .taken) (c .before .before .before .before .edge-at .ensures) (e .0) (e .1),
+      laying-next (k .loop .inv .1) (k .before .before .before .before .before .before .pre .equal) (c .before .before .before .before .before .loop-test .taken) (c .before .before .before .before .edge-at .ensures) (e .0) (e .1),
     )
 
 same-length : tie.Need-same-length Inv-loop μ-loop

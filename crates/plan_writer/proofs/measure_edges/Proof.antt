@@ -9,19 +9,19 @@ use Rattle.plan_writer.proofs.measure_edges.Statement.{statement}
 use Rattle.plan_writer.proofs.measure_edges.Tie as tie
 
 abbrev Inv-loop : tie.InvT-loop
-Inv-loop vertices tails heads costs start cursor₀ i₀ cursor i = (i ≤ length tails) × Measuring vertices tails heads costs start cursor i
+Inv-loop vertices tails heads costs classes start cursor₀ i₀ cursor i = (i ≤ length tails) × Measuring vertices tails heads costs classes start cursor i
 
 abbrev μ-loop : tie.MeasureT-loop
-μ-loop vertices tails heads costs start cursor₀ i₀ cursor i = length tails - i
+μ-loop vertices tails heads costs classes start cursor₀ i₀ cursor i = length tails - i
 
 first-requires : tie.Need-first-requires Inv-loop μ-loop
 first-requires c κs = search needs
 
 loop-holds : tie.Need-loop-holds Inv-loop μ-loop
-loop-holds c = (search needs, measuring-first _ _ _ _ _ _ (c .first .ensures))
+loop-holds c = (search needs, measuring-first _ _ _ _ _ _ _ (c .first .ensures))
 
 edge-at-requires : tie.Need-edge-at-requires Inv-loop μ-loop
-edge-at-requires c κs = (c .before .before .before .before .before .before .pre .0, c .loop-test .taken)
+edge-at-requires c κs = (c .before .before .before .before .before .before .before .pre .0, c .loop-test .taken)
 
 measure-edge-requires : tie.Need-measure-edge-requires Inv-loop μ-loop
 measure-edge-requires c κs = omega (arith, c .before .before .loop .inv .1 .few)
@@ -35,7 +35,7 @@ enum-known-n c = search needs
 returns : tie.Need-returns Inv-loop μ-loop
 returns c =
     let k = c .before .before .before .before .before .before in
-    measuring-refused (k .loop .inv .1) (k .before .before .before .before .before .pre .0) (c .before .before .before .before .before .loop-test .taken) (c .before .before .before .before .edge-at .ensures)
+    measuring-refused (k .loop .inv .1) (k .before .before .before .before .before .before .pre .0) (c .before .before .before .before .before .loop-test .taken) (c .before .before .before .before .edge-at .ensures)
     (sym (c .before .before .before .measure-edge .ensures) ∙ c .before .n .given .1)
 
 add-i : tie.Need-add-i Inv-loop μ-loop
@@ -48,7 +48,7 @@ loop-again : tie.Need-loop-again Inv-loop μ-loop
 loop-again c =
     let k = c .before .before .before .before .before .before in (
       search needs,
-      measuring-next (k .loop .inv .1) (k .before .before .before .before .before .pre .0) (c .before .before .before .before .before .loop-test .taken) (c .before .before .before .before .edge-at .ensures)
+      measuring-next (k .loop .inv .1) (k .before .before .before .before .before .before .pre .0) (c .before .before .before .before .before .loop-test .taken) (c .before .before .before .before .edge-at .ensures)
           (sym (c .before .before .before .measure-edge .ensures) ∙ c .before .past .given .1),
     )
 
