@@ -1,7 +1,7 @@
 // Plans for programs in C and Rust: answers as four figures, over numbers and lent memory.
 ghost use mathlib.Core.Path.{_≡_};
 ghost use Rattle.graph.specs.Plan.{decode, sizes};
-ghost use Rattle.graph.specs.Lists.{tailOf, headOf, costOf, readAnswer, listAfter};
+ghost use Rattle.graph.specs.Lists.{tailOf, headOf, costOf, classOf, readAnswer, listAfter};
 ghost use Rattle.graph.specs.Lists as lists;
 ghost use Rattle.ffi_plans.specs.Figures.{planFigures, countFigures};
 use graph::PlanRead;
@@ -35,35 +35,38 @@ pub extern "C" fn secondcoop_check_plan(bytes: &[u8], figures: &mut [u64; 4])
     *figures = of_plan(plan_check::check(bytes));
 }
 
-// A plan read into three lists.
+// A plan read into four lists.
 #[no_mangle]
 pub extern "C" fn secondcoop_read_plan(
     bytes: &[u8],
     tails: &mut [u32],
     heads: &mut [u32],
     costs: &mut [u32],
+    classes: &mut [u32],
     figures: &mut [u64; 4],
 )
-    ensures { λ r. ⌜ now (figures .exit) ≡ planFigures (readAnswer (now (bytes .entry)) (now (tails .entry)) (now (heads .entry)) (now (costs .entry))) ⌝ }
-    ensures { λ r. ⌜ now (tails .exit) ≡ listAfter tailOf (now (bytes .entry)) (now (tails .entry)) (readAnswer (now (bytes .entry)) (now (tails .entry)) (now (heads .entry)) (now (costs .entry))) ⌝ }
-    ensures { λ r. ⌜ now (heads .exit) ≡ listAfter headOf (now (bytes .entry)) (now (heads .entry)) (readAnswer (now (bytes .entry)) (now (tails .entry)) (now (heads .entry)) (now (costs .entry))) ⌝ }
-    ensures { λ r. ⌜ now (costs .exit) ≡ listAfter costOf (now (bytes .entry)) (now (costs .entry)) (readAnswer (now (bytes .entry)) (now (tails .entry)) (now (heads .entry)) (now (costs .entry))) ⌝ }
+    ensures { λ r. ⌜ now (figures .exit) ≡ planFigures (readAnswer (now (bytes .entry)) (now (tails .entry)) (now (heads .entry)) (now (costs .entry)) (now (classes .entry))) ⌝ }
+    ensures { λ r. ⌜ now (tails .exit) ≡ listAfter tailOf (now (bytes .entry)) (now (tails .entry)) (readAnswer (now (bytes .entry)) (now (tails .entry)) (now (heads .entry)) (now (costs .entry)) (now (classes .entry))) ⌝ }
+    ensures { λ r. ⌜ now (heads .exit) ≡ listAfter headOf (now (bytes .entry)) (now (heads .entry)) (readAnswer (now (bytes .entry)) (now (tails .entry)) (now (heads .entry)) (now (costs .entry)) (now (classes .entry))) ⌝ }
+    ensures { λ r. ⌜ now (costs .exit) ≡ listAfter costOf (now (bytes .entry)) (now (costs .entry)) (readAnswer (now (bytes .entry)) (now (tails .entry)) (now (heads .entry)) (now (costs .entry)) (now (classes .entry))) ⌝ }
+    ensures { λ r. ⌜ now (classes .exit) ≡ listAfter classOf (now (bytes .entry)) (now (classes .entry)) (readAnswer (now (bytes .entry)) (now (tails .entry)) (now (heads .entry)) (now (costs .entry)) (now (classes .entry))) ⌝ }
 {
-    *figures = of_plan(plan_reader::read(bytes, tails, heads, costs));
+    *figures = of_plan(plan_reader::read(bytes, tails, heads, costs, classes));
 }
 
-// A plan written from V and three lists.
+// A plan written from V and four lists.
 #[no_mangle]
 pub extern "C" fn secondcoop_write_plan(
     vertices: u32,
     tails: &[u32],
     heads: &[u32],
     costs: &[u32],
+    classes: &[u32],
     out: &mut [u8],
     figures: &mut [u64; 4],
 )
-    ensures { λ r. ⌜ now (figures .exit) ≡ countFigures (lists.writeAnswer vertices (now (tails .entry)) (now (heads .entry)) (now (costs .entry)) (now (out .entry))) ⌝ }
-    ensures { λ r. ⌜ now (out .exit) ≡ lists.outAfter vertices (now (tails .entry)) (now (heads .entry)) (now (costs .entry)) (now (out .entry)) (lists.writeAnswer vertices (now (tails .entry)) (now (heads .entry)) (now (costs .entry)) (now (out .entry))) ⌝ }
+    ensures { λ r. ⌜ now (figures .exit) ≡ countFigures (lists.writeAnswer vertices (now (tails .entry)) (now (heads .entry)) (now (costs .entry)) (now (classes .entry)) (now (out .entry))) ⌝ }
+    ensures { λ r. ⌜ now (out .exit) ≡ lists.outAfter vertices (now (tails .entry)) (now (heads .entry)) (now (costs .entry)) (now (classes .entry)) (now (out .entry)) (lists.writeAnswer vertices (now (tails .entry)) (now (heads .entry)) (now (costs .entry)) (now (classes .entry)) (now (out .entry))) ⌝ }
 {
-    *figures = of_count(plan_writer::write(vertices, tails, heads, costs, out));
+    *figures = of_count(plan_writer::write(vertices, tails, heads, costs, classes, out));
 }

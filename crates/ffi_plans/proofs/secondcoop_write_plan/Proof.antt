@@ -17,7 +17,7 @@ same-length c = search needs
 
 returns : tie.Need-returns
 returns c =
-    let e = c .before .before .before .write .ensures in (c .of-count .ensures ∙ ap countFigures (e .0), e .1 ∙ ap (outAfter _ _ _ _ _) (e .0))
+    let e = c .before .before .before .write .ensures in (c .of-count .ensures ∙ ap countFigures (e .0), e .1 ∙ ap (outAfter _ _ _ _ _ _) (e .0))
 
 pub secondcoop-write-plan-spec : {M : Type 1} → statement M
 secondcoop-write-plan-spec =
