@@ -14,7 +14,7 @@ use Rattle.planner.specs.Carried.{Carries, Stands}
 
 -- what a call asks besides slices
 abbrev pub queryOf : Call → Query
-queryOf c = record { start = c .start; goal = c .goal; guides = c .count; budget = c .budget }
+queryOf c = record { start = c .start; goal = c .goal; barred = c .barred; guides = c .count; budget = c .budget }
 
 -- memory as a function has it that is not lent the log
 abbrev pub unlogged : Memory → Memory

@@ -7,15 +7,17 @@ use mathlib.Core.List.{List, map}
 use lib.ListN.{length, length-map}
 use lib.Dec.{ltb}
 use borrow.Author.Tests.{lt-ltb, le-ltb}
+use Rattle.graph.specs.declared.Edge.{Edge}
 use Rattle.search.specs.declared.Vertex.{Vertex}
 use Rattle.search.specs.declared.Progress.{Progress}
 use Rattle.search.specs.declared.Step.the-variants.{Finished}
+use Rattle.search.specs.Walk.{routeCost}
 use Rattle.search.specs.Job.{State, Job, guides}
-use Rattle.search.specs.Rounds.{ended, step, reopened, endRound}
+use Rattle.search.specs.Rounds.{ended, step, reopened, traced, endRound}
 use Rattle.search.specs.Call.{Memory, Call, planEdges, jobOf}
 use Rattle.search.specs.Outcome.{routeAfter}
 use Rattle.search.proofs.Tools.{le-cases}
-use Rattle.search.proofs.Admitted.{admitted, rounds-few}
+use Rattle.search.proofs.Admitted.{admitted, plan-cost, rounds-few}
 use Rattle.search.proofs.Standing.{Over, round-over}
 use Rattle.admission.specs.declared.Query.{Query}
 use Rattle.workspace.specs.declared.Size.{Size}
@@ -26,7 +28,7 @@ use Rattle.route.specs.Trace.{tracedIn, tracedCost}
 use Rattle.route.specs.Kept.{keptCost, keptRoute}
 use Rattle.route.proofs.Ended.{ends-cost, ends-route}
 use Rattle.planner.specs.Carried.{Asking, wordsOf, Carries}
-use Rattle.planner.proofs.Jobs.{first-few, job-guides, job-start, job-goal, job-edges}
+use Rattle.planner.proofs.Jobs.{first-few, job-guides, job-start, job-goal}
 
 -- another round follows, if more than one was left
 next-left : (r n : ℕ) → ltb 1 (n - r) ≡ ltb (suc r) n
@@ -52,8 +54,12 @@ module _ (c : Call) (z : Size) (q : Query) (s : State) (left : ℕ) (p : Progres
   vertices-is : verticesOf z (wordsOf m) ≡ s .vertices
   vertices-is = holds-vertices z (planEdges c) (s .vertices) (wordsOf (c .memory)) (wordsOf m) (k .words)
 
-  graph-is : graphOf z (m .work) ≡ job .edges
-  graph-is = holds-graph z (planEdges c) (s .vertices) (wordsOf (c .memory)) (wordsOf m) (k .words) ∙ sym (job-edges c)
+  -- the traced route costs over the whole plan what it costs over the permitted edges
+  same-cost : routeCost (graphOf z (m .work)) (traced job s) ≡ routeCost (job .edges) (traced job s)
+  same-cost =
+      ap (λ (es : List Edge). routeCost es (traced job s)) (holds-graph z (planEdges c) (s .vertices) (wordsOf (c .memory)) (wordsOf m) (k .words))
+      ∙ plan-cost c (a .admitted) (done .walk .walk)
+      ∙ sym (done .walk .is)
 
   -- whether another round follows
   abbrev next : Bool
@@ -87,10 +93,10 @@ module _ (c : Call) (z : Size) (q : Query) (s : State) (left : ℕ) (p : Progres
   carries-end cost m′ p′ h r w e =
       let g : q .guides ≡ guides job = a .guides ∙ sym (job-guides c) in
       let h′ : cost ≡ endRound job s .progress .cost
-      = ends-cost z (wordsOf m) job s (a .vertices) graph-is vertices-is cost
+      = ends-cost z (wordsOf m) job s (a .vertices) same-cost vertices-is cost
       (rw (sym start-is, sym goal-is, sym (k .progress)) h) in
       let r′ : m′ .route ≡ routeAfter job (endRound job s) (c .memory .route)
-      = ends-route z (wordsOf m) job s (a .vertices) graph-is vertices-is (c .memory .route) (m .route) (m′ .route) (done .walk .cost) (done .walk .is)
+      = ends-route z (wordsOf m) job s (a .vertices) same-cost vertices-is (c .memory .route) (m .route) (m′ .route) (done .walk .cost) (done .walk .is)
       (λ i. k .ok .kept .route i .short) (k .kept) (rw (sym start-is, sym goal-is, sym (k .progress)) r) in
       record {
         ok = done .after;

@@ -136,6 +136,7 @@ module _ (c : Call) (z : Size) (y : Stand) (s : Standing) (schedule route : List
         edges = sym (h .stands .carries .words .edges);
         start = refl;
         goal = refl;
+        barred = refl;
         guides = refl;
       }
 

@@ -94,12 +94,12 @@ picked-some [] schedule usual e u = omega (arith, ap length (e ∙ u))
 picked-some (w ∷ ws) schedule usual e u = omega (arith, ap length e)
 
 -- a call with these arguments, the schedule in force, and what is decided of it
-module _ (bytes : List ℕ) (start goal : ℕ) (anchor sheets : List ℕ) (count : ℕ) (given : List ℕ) (budget : ℕ) (m : Memory)
+module _ (bytes : List ℕ) (start goal barred : ℕ) (anchor sheets : List ℕ) (count : ℕ) (given : List ℕ) (budget : ℕ) (m : Memory)
     (schedule usual : List ℕ) (e : schedule ≡ inForce usual given) (u : usual ≡ house) (d : Verdict)
-    (k : Decided bytes (queryOf (callOf bytes start goal anchor sheets count given budget m)) anchor sheets schedule
+    (k : Decided bytes (queryOf (callOf bytes start goal barred anchor sheets count given budget m)) anchor sheets schedule
     (record { route = length (m .route); work = length (m .work) }) d) where
   abbrev c : Call
-  c = callOf bytes start goal anchor sheets count given budget m
+  c = callOf bytes start goal barred anchor sheets count given budget m
 
   picked : schedule ≡ scheduleOf c
   unfolding scheduleOf
@@ -112,6 +112,7 @@ module _ (bytes : List ℕ) (start goal : ℕ) (anchor sheets : List ℕ) (count
         bytes-is = refl;
         start-is = refl;
         goal-is = refl;
+        barred-is = refl;
         anchor-is = refl;
         sheets-is = refl;
         count-is = refl;
@@ -143,6 +144,7 @@ module _ (bytes : List ℕ) (start goal : ℕ) (anchor sheets : List ℕ) (count
                 edges = sym (admitted-so .count) ∙ ap length (sym (plan-edges c vertices (admitted-so .edges) (admitted-so .plan)));
                 start = refl;
                 goal = refl;
+                barred = refl;
                 guides = refl;
               };
           budget-is = refl;

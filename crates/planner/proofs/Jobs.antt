@@ -8,12 +8,12 @@ use lib.Dec.{eqb, ltb}
 use mir.Facts.{eqb-no, ltb-yes}
 use Rattle.graph.specs.declared.Edge.{Edge}
 use Rattle.graph.specs.Plan.{Decoded, accepted, refused, decode}
-use Rattle.graph.specs.Lists.{none, fault, edgesIn}
+use Rattle.graph.specs.Lists.{none, fault}
 use Rattle.search.specs.declared.Factors.{Factors}
 use Rattle.search.specs.Job.{cyclic, guides, heuristic, factors}
 use Rattle.search.specs.Rounds.{firstTurn, nextTurn}
 use Rattle.search.proofs.Tools.{cond-ind}
-use Rattle.search.specs.Call.{Call, scheduleOf, pairs, tables, faultIn, faultOf, planEdges, jobIn, jobFrom, jobOf}
+use Rattle.search.specs.Call.{Call, scheduleOf, pairs, tables, faultIn, faultOf, jobIn, jobFrom, jobOf}
 
 -- whose turn it is, of n guides
 pub first-few : (n : ℕ) → firstTurn n ≤ n
@@ -53,15 +53,6 @@ module _ (c : Call) where
   unfolding jobOf
   job-schedule = by-schedule (decode (c .bytes))
 
-  by-edges : (d : Decoded) → jobFrom c d .edges ≡ edgesIn d
-  unfolding jobFrom jobIn edgesIn
-  by-edges (accepted v es) = refl
-  by-edges (refused n p) = refl
-
-  -- the one law that ties the job's edges to the plan's
-  pub job-edges : jobOf c .edges ≡ planEdges c
-  unfolding jobOf planEdges
-  job-edges = by-edges (decode (c .bytes))
 
   by-pick : (d : Decoded) → jobFrom c d .pick ≡ cyclic
   unfolding jobFrom jobIn

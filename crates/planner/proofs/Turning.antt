@@ -10,6 +10,7 @@ use Rattle.search.specs.declared.Factors.{Factors}
 use Rattle.search.specs.declared.Choice.{Choice}
 use Rattle.search.specs.declared.Progress.{Progress}
 use Rattle.search.specs.declared.Step.the-variants.{Due}
+use Rattle.search.specs.Permitted.{permitted}
 use Rattle.search.specs.Job.{State, Job, cyclic, guides, heuristic, factors}
 use Rattle.search.specs.Turn.{candidate, expand}
 use Rattle.search.specs.Rounds.{Stand, Moment, turned, inHand, choice, turn, settle, settled, advance, run, moments}
@@ -18,7 +19,7 @@ use Rattle.search.specs.Outcome.{routeAfter, logWord, logAfter}
 use Rattle.search.specs.Bounds.{maxKey}
 use Rattle.search.proofs.Facts.{InRange, Valid}
 use Rattle.search.proofs.Moves.{length-expand}
-use Rattle.search.proofs.Admitted.{admitted}
+use Rattle.search.proofs.Admitted.{admitted, job-edges}
 use Rattle.search.proofs.Standing.{says-due, turn-ok, advance-good}
 use Rattle.search.proofs.Runs.{advance-due, advance-over, moments-due, moments-over, run-suc, counts}
 use Rattle.workspace.specs.declared.Size.{Size}
@@ -31,7 +32,7 @@ use Rattle.planner.specs.declared.Standing.{Standing}
 use Rattle.planner.specs.Plan.{memoryOf}
 use Rattle.planner.specs.Carried.{Asking, wordsOf, Carries, Stands, Settling, Settles}
 use Rattle.planner.specs.Reached.{Given, Reaches, Advancing, Advances}
-use Rattle.planner.proofs.Jobs.{next-few, job-heuristics, job-factors, job-guides, job-schedule, job-edges, job-pick}
+use Rattle.planner.proofs.Jobs.{next-few, job-heuristics, job-factors, job-guides, job-schedule, job-pick}
 use Rattle.planner.proofs.Asked.{small, few, sheets-long, in-range, rounds-are}
 use Rattle.planner.proofs.Carrying.{stands-log}
 use Rattle.planner.proofs.Logging.{log-more}
@@ -125,7 +126,7 @@ module _ (c : Call) (z : Size) (q : Query) (y : Stand) (ts : List Moment) (s : S
 
     -- the record, and memory after the turn: step 1 sees no log
     module _ (next : Progress) (l′ : Memory) (ne : next ≡ turned (q .guides) p)
-        (we : Becomes z (expand (graphOf z (l .work)) (choiceOf z f guides′ (wordsOf l) m b (p .turn) .heuristic) (choiceOf z f guides′ (wordsOf l) m b (p .turn) .vertex) (verticesOf z (wordsOf l))) (wordsOf l) (wordsOf l′))
+        (we : Becomes z (expand (permitted (q .barred) (graphOf z (l .work))) (choiceOf z f guides′ (wordsOf l) m b (p .turn) .heuristic) (choiceOf z f guides′ (wordsOf l) m b (p .turn) .vertex) (verticesOf z (wordsOf l))) (wordsOf l) (wordsOf l′))
         (same : l′ .route ≡ l .route) where
       abbrev after : State
       after = turn job c′ st
@@ -133,13 +134,19 @@ module _ (c : Call) (z : Size) (q : Query) (y : Stand) (ts : List Moment) (s : S
       guides-is : q .guides ≡ guides job
       guides-is = a .guides ∙ sym (job-guides c)
 
+      edges-are : permitted (q .barred) (graphOf z (l .work)) ≡ job .edges
+      edges-are =
+          ap (permitted (q .barred)) (holds-graph z (planEdges c) (st .vertices) (wordsOf (c .memory)) (wordsOf l) (carried .words))
+          ∙ ap (λ (b : ℕ). permitted b (planEdges c)) (a .barred)
+          ∙ sym (job-edges c)
+
       vertices-are :
-          expand (graphOf z (l .work)) (choiceOf z f guides′ (wordsOf l) m b (p .turn) .heuristic) (choiceOf z f guides′ (wordsOf l) m b (p .turn) .vertex) (verticesOf z (wordsOf l))
+          expand (permitted (q .barred) (graphOf z (l .work))) (choiceOf z f guides′ (wordsOf l) m b (p .turn) .heuristic) (choiceOf z f guides′ (wordsOf l) m b (p .turn) .vertex) (verticesOf z (wordsOf l))
           ≡ expand (job .edges) (c′ .heuristic) (c′ .vertex) (st .vertices)
       vertices-are =
-          ap (λ (x : Choice). expand (graphOf z (l .work)) (x .heuristic) (x .vertex) (verticesOf z (wordsOf l))) choice-is
+          ap (λ (x : Choice). expand (permitted (q .barred) (graphOf z (l .work))) (x .heuristic) (x .vertex) (verticesOf z (wordsOf l))) choice-is
           ∙ ap (λ (es : List Edge). expand es (c′ .heuristic) (c′ .vertex) (verticesOf z (wordsOf l)))
-          (holds-graph z (planEdges c) (st .vertices) (wordsOf (c .memory)) (wordsOf l) (carried .words) ∙ sym (job-edges c))
+          edges-are
           ∙ ap (λ (vs : List Vertex). expand (job .edges) (c′ .heuristic) (c′ .vertex) vs)
           (holds-vertices z (planEdges c) (st .vertices) (wordsOf (c .memory)) (wordsOf l) (carried .words))
 
@@ -239,7 +246,7 @@ module _ (z : Size) (q : Query) (anchor guides′ schedule : List ℕ) (s : Stan
 
   module _ (m b : ℕ) (e : s .step ≡ Due m b) (f : Factors) (fe : f ≡ getD (pairs schedule) (s .progress .rounds) (record { w1 = 0; w2 = 0 }))
       (next : Progress) (l′ : Memory) (ne : next ≡ turned (q .guides) (s .progress))
-      (we : Becomes z (expand (graphOf z (l .work)) (choiceOf z f guides′ (wordsOf l) m b (s .progress .turn) .heuristic) (choiceOf z f guides′ (wordsOf l) m b (s .progress .turn) .vertex) (verticesOf z (wordsOf l))) (wordsOf l) (wordsOf l′))
+      (we : Becomes z (expand (permitted (q .barred) (graphOf z (l .work))) (choiceOf z f guides′ (wordsOf l) m b (s .progress .turn) .heuristic) (choiceOf z f guides′ (wordsOf l) m b (s .progress .turn) .vertex) (verticesOf z (wordsOf l))) (wordsOf l) (wordsOf l′))
       (same : l′ .route ≡ l .route) (rounds : ℕ) (re : rounds ≡ length (pairs schedule)) where
     pub settling-next : Advancing z q anchor guides′ schedule s l → Settling z q anchor schedule (rounds - next .rounds) next l′
     settling-next h =

@@ -25,6 +25,7 @@ pub record Asking (c : Call) (z : Size) (q : Query) : Type 0 where
   pub edges : z .edges ≡ length (planEdges c)
   pub start : q .start ≡ c .start
   pub goal : q .goal ≡ c .goal
+  pub barred : q .barred ≡ c .barred
   pub guides : q .guides ≡ c .count
 
 -- the part of lent memory in which vertices lie

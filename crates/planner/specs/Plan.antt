@@ -12,12 +12,13 @@ abbrev pub memoryOf : List ℕ → List ℕ → List ℕ → Memory
 memoryOf route log work = record { route = route; log = log; work = work }
 
 -- the call with these arguments, where memory is lent as it is
-abbrev pub callOf : List ℕ → ℕ → ℕ → List ℕ → List ℕ → ℕ → List ℕ → ℕ → Memory → Call
-callOf bytes start goal anchor guides count schedule budget m =
+abbrev pub callOf : List ℕ → ℕ → ℕ → ℕ → List ℕ → List ℕ → ℕ → List ℕ → ℕ → Memory → Call
+callOf bytes start goal barred anchor guides count schedule budget m =
     record {
       bytes = bytes;
       start = start;
       goal = goal;
+      barred = barred;
       anchor = anchor;
       sheets = guides;
       count = count;

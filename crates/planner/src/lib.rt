@@ -21,13 +21,14 @@ pub struct Standing {
     pub progress: Progress,
 }
 
-// Plans a route: plan bytes, start and goal, the anchor heuristic (anchor table), the inadmissible ones (guide sheets) one
-// after another with their count, the schedule W1, W2, W1, W2, .. (empty: the house schedule), the budget
-// (allowance) of turns; route, log and work memory are lent.
+// Plans a route: plan bytes, start and goal, the barred classes (bit k for class k), the anchor heuristic (anchor
+// table), the inadmissible ones (guide sheets) one after another with their count, the schedule W1, W2, W1, W2, ..
+// (empty: the house schedule), the budget (allowance) of turns; route, log and work memory are lent.
 pub fn plan(
     bytes: &[u8],
     start: u32,
     goal: u32,
+    barred: u32,
     anchor: &[u32],
     guides: &[u32],
     guide_count: u32,
@@ -37,13 +38,14 @@ pub fn plan(
     log: &mut [u32],
     work: &mut [u32],
 ) -> Answer
-    ensures { λ r. ⌜ Planned (callOf (now (bytes .entry)) start goal (now (anchor .entry)) (now (guides .entry)) «guide_count» (now (schedule .entry)) budget (memoryOf (now (route .entry)) (now (log .entry)) (now (work .entry)))) r (memoryOf (now (route .exit)) (now (log .exit)) (now (work .exit))) ⌝ }
+    ensures { λ r. ⌜ Planned (callOf (now (bytes .entry)) start goal barred (now (anchor .entry)) (now (guides .entry)) «guide_count» (now (schedule .entry)) budget (memoryOf (now (route .entry)) (now (log .entry)) (now (work .entry)))) r (memoryOf (now (route .exit)) (now (log .exit)) (now (work .exit))) ⌝ }
 {
     let house = schedule::house();
     let in_force = schedule::in_force(schedule, &house);
     let q = Query {
         start,
         goal,
+        barred,
         guides: guide_count,
         budget,
     };

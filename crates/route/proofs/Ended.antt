@@ -107,7 +107,7 @@ module _ (job : Job) (s : State) where
     unfolding keptRoute endRound ended routeAfter
     end-route = rw (is, ne-eqb (suc (s .progress .rounds)) 0 (λ e. omega arith)) (by-test (improves (Cost k) (s .progress)) refl)
 
--- ---- where memory holds the state
+-- ---- where memory holds the state, and a graph over which the traced route costs what it costs over the job's edges
 
 -- the words of predecessors are traced as those of the vertices
 pub tracedIn-is :
@@ -117,15 +117,15 @@ unfolding tracedIn
 tracedIn-is z m start goal =
     trace-same (predOf z (m .work)) (λ x. at (verticesOf z m) x .pred) (pred-is z m) start (z .vertices) goal []
 
-module _ (z : Size) (m : Words) (job : Job) (s : State) (size : z .vertices ≡ job .size) (edges : graphOf z (m .work) ≡ job .edges)
-    (vertices : verticesOf z m ≡ s .vertices) where
+module _ (z : Size) (m : Words) (job : Job) (s : State) (size : z .vertices ≡ job .size)
+    (same : routeCost (graphOf z (m .work)) (traced job s) ≡ routeCost (job .edges) (traced job s)) (vertices : verticesOf z m ≡ s .vertices) where
   pub traced-is : tracedIn z (m .work) (job .start) (job .goal) ≡ traced job s
   unfolding traced
   traced-is = tracedIn-is z m (job .start) (job .goal) ∙ rw (vertices, size)
 
   pub cost-is : tracedCost z (m .work) (job .start) (job .goal) ≡ routeCost (job .edges) (traced job s)
   unfolding tracedCost
-  cost-is = rw (traced-is, edges)
+  cost-is = rw traced-is same
 
   -- what `keep` answers is the incumbent's cost after the round
   pub ends-cost : (n : ℕ) → n ≡ keptCost (tracedCost z (m .work) (job .start) (job .goal)) (s .progress) → n ≡ endRound job s .progress .cost

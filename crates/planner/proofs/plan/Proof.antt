@@ -25,12 +25,12 @@ enum-known-vertices c = search needs
 answer-requires : tie.Need-answer-requires
 answer-requires c κs =
     let k = c .before .before .before .before .before .before in
-    lent-here _ _ _ _ _ _ _ _ _ _ _ (k .before .in-force .ensures) (k .before .before .before .house .ensures) _ (k .decide .ensures) _ _ _ (c .before .before .before .before .vertices .given .1)
+    lent-here _ _ _ _ _ _ _ _ _ _ _ _ (k .before .in-force .ensures) (k .before .before .before .house .ensures) _ (k .decide .ensures) _ _ _ (c .before .before .before .before .vertices .given .1)
 
 returns : tie.Need-returns
 returns c =
     let k = c .before .before .before in
-    planned-refused _ _ _ _ _ _ _ _ _ _ _ (k .before .in-force .ensures) (k .before .before .before .house .ensures) _ (k .decide .ensures) _ _ (c .before .n .given .1)
+    planned-refused _ _ _ _ _ _ _ _ _ _ _ _ (k .before .in-force .ensures) (k .before .before .before .house .ensures) _ (k .decide .ensures) _ _ (c .before .n .given .1)
 
 same-length : tie.Need-same-length
 same-length c = search needs
@@ -45,7 +45,7 @@ returns-2 : tie.Need-returns-2
 returns-2 c =
     let f = c .before .before .before .before .before .before in
     let k = f .before .before .before .before .before .before .before in
-    planned _ _ _ _ _ _ _ _ _ _ _ (k .before .in-force .ensures) (k .before .before .before .house .ensures) _ (k .decide .ensures) _ _ _ (f .before .before .before .before .before .vertices .given .1) _ _ (f .answer .ensures)
+    planned _ _ _ _ _ _ _ _ _ _ _ _ (k .before .in-force .ensures) (k .before .before .before .house .ensures) _ (k .decide .ensures) _ _ _ (f .before .before .before .before .before .vertices .given .1) _ _ (f .answer .ensures)
 
 pub plan-spec : {M : Type 1} → statement M
 plan-spec =
