@@ -1,11 +1,12 @@
--- The table of document 01's (p) cases, and the jobs that tell its rules from others.
+-- The table of document 01's (p) cases, the jobs that tell its rules from others, and the cases of barred classes.
 use mathlib.Core.Path.{refl}
 use Rattle.leb128.specs.Number.{planGroups, more, answered, read}
 use Rattle.leb128.specs.Number
-use Rattle.graph.specs.Rows.{vertexCountRows, edgeCountRows, tailRows, headRows, costRows, through, throughAll, takeNumber, taking}
+use Rattle.graph.specs.Rows.{vertexCountRows, edgeCountRows, tailRows, headRows, costRows, classRows, through, throughAll, takeNumber, taking}
 use Rattle.graph.specs.Plan.{leastAfter, past, nextEdge, before, onward, edgesFrom, header, afterHeader, decode}
-use Rattle.graph.specs.Lists.{over, edgesIn}
+use Rattle.graph.specs.Lists.{over, edgesIn, edgesOf, listRows, edgeRows, edgesFault, writeFault}
 use Rattle.search.specs.Walk.{edgeCost, onEdge, costFrom, routeCost}
+use Rattle.search.specs.Permitted.{barredBy, permitted}
 use Rattle.search.specs.Job.{cyclic, guides, heuristic, factors, house, unreached, noPred, routeEnd, fresh, origin, atFirst, at}
 use Rattle.search.specs.Turn.{key, offered, better, leastFrom, least, stepOne, candidate, choose, marked, lowered, relax, relaxAll, expand}
 use Rattle.search.specs.Rounds.{firstTurn, nextTurn, turned, ended, inHand, step, choice, turn, trace, traced, improves, costOr, reopened, endRound, onFinished, settle, settled, begin, onDue, advance, run, moments, search}
@@ -14,14 +15,15 @@ use Rattle.search.specs.Outcome.{bound, summary, cutShort, answerAt, answerOf, 
 use Rattle.job.proofs.JobA.{prints-A}
 use Rattle.cases.specs.Cases.{Cases}
 use Rattle.cases.specs.Apart.{Apart}
+use Rattle.cases.specs.Barred.{Barred}
 use Rattle.cases.proofs.Schedules.{house-schedule}
 use Rattle.cases.proofs.Ends.{plan-refused}
 use Rattle.search.specs.Guarantee.{withPick}
 use Rattle.cases.proofs.TwoVertices.{two-vertices}
 use Rattle.cases.proofs.StartIsGoal.{start-is-goal}
 
-computed : Cases × Apart
-unfolding Number.decode more answered read planGroups vertexCountRows edgeCountRows tailRows headRows costRows through throughAll takeNumber taking leastAfter past nextEdge before onward edgesFrom header afterHeader decode over edgesIn edgeCost onEdge costFrom routeCost cyclic guides heuristic factors house unreached noPred routeEnd fresh origin atFirst at key offered better leastFrom least stepOne candidate choose marked lowered relax relaxAll expand firstTurn nextTurn turned ended inHand step choice turn trace traced improves costOr reopened endRound onFinished settle settled begin onDue advance run moments search inForce scheduleOf outOfRange rising pairs row first endsRow tablesRow scheduleRow memoryRow goalRow edgesRow faultIn faultOf planEdges tables jobIn jobFrom jobOf bound summary cutShort answerAt answerOf figures routeWords routeAfter logWord logAfter edgesBelow firstEdges markWord vertexWords workWords outcome answerIn answer memoryIn memoryAfter withPick
+computed : Cases × Apart × Barred
+unfolding Number.decode more answered read planGroups vertexCountRows edgeCountRows tailRows headRows costRows classRows through throughAll takeNumber taking leastAfter past nextEdge before onward edgesFrom header afterHeader decode over edgesIn edgesOf listRows edgeRows edgesFault writeFault edgeCost onEdge costFrom routeCost barredBy permitted cyclic guides heuristic factors house unreached noPred routeEnd fresh origin atFirst at key offered better leastFrom least stepOne candidate choose marked lowered relax relaxAll expand firstTurn nextTurn turned ended inHand step choice turn trace traced improves costOr reopened endRound onFinished settle settled begin onDue advance run moments search inForce scheduleOf outOfRange rising pairs row first endsRow tablesRow scheduleRow memoryRow goalRow edgesRow faultIn faultOf planEdges tables jobIn jobFrom jobOf bound summary cutShort answerAt answerOf figures routeWords routeAfter logWord logAfter edgesBelow firstEdges markWord vertexWords workWords outcome answerIn answer memoryIn memoryAfter withPick
 computed = (
   record {
     job-A = record { says = refl; leaves = refl };
@@ -45,6 +47,16 @@ computed = (
     guide-3-says = refl;
     house-schedule = house-schedule;
   },
+  record {
+    ramp = record { says = refl; leaves = refl };
+    all-barred = record { says = refl; leaves = refl };
+    barred-breaks-rule = record { says = refl; leaves = refl };
+    barred-256 = record { says = refl; leaves = refl };
+    barred-255 = record { says = refl; leaves = refl };
+    class-8 = plan-refused _ _ _ refl;
+    class-8-written = refl;
+    cost-before-class = refl;
+  },
 )
 
 pub all-cases : Cases
@@ -52,3 +64,6 @@ all-cases = computed .0
 
 pub apart : Apart
 apart = computed .1
+
+pub barred : Barred
+barred = computed .2

@@ -25,4 +25,4 @@ handed c f m e a b = record { says = rw e a; leaves = rw e b }
 pub plan-refused : (bytes : List ℕ) (n p : ℕ) → decode bytes ≡ Plan.refused n p → PlanRefused bytes n p
 unfolding readAnswer readAs sizes answer memoryAfter answerIn memoryIn faultOf faultIn figures
 plan-refused bytes n p e =
-    record { decoded = e; read = λ ts hs cs. rw e; called = λ c h. record { says = rw (h, e); leaves = rw (h, e) } }
+    record { decoded = e; read = λ ts hs cs ks. rw e; called = λ c h. record { says = rw (h, e); leaves = rw (h, e) } }

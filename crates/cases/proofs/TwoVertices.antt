@@ -12,6 +12,7 @@ use Rattle.graph.specs.Plan.{edgesFrom, header, afterHeader, decode}
 use Rattle.graph.specs.Lists.{none, edgesIn}
 use Rattle.search.specs.declared.Factors.{Factors}
 use Rattle.search.specs.declared.Step.the-variants.{Stuck, Due}
+use Rattle.search.specs.Permitted.{permitted}
 use Rattle.search.specs.Job.{State, Job, cyclic, guides, heuristic, factors, house, unreached, noPred, fresh, origin, atFirst, at}
 use Rattle.search.specs.Turn.{key, offered, better, leastFrom, least, stepOne, candidate, choose, marked, relaxAll, expand}
 use Rattle.search.specs.Rounds.{Stand, Moment, firstTurn, nextTurn, turned, inHand, step, choice, turn, onFinished, begin, onDue, advance, run, moments, search}
@@ -24,13 +25,14 @@ use Rattle.cases.specs.Cases.{HandsOver, Enough, twoVertices, noRouteAft
 use Rattle.cases.proofs.Schedules.{in-force}
 use Rattle.cases.proofs.Ends.{settled-at, handed}
 
-not-refused : (ws : List ℕ) → Schedule ws → (n : ℕ) (m : Memory) → Enough 2 0 m → faultOf (twoVertices ws n m) ≡ none
+not-refused : (b : ℕ) → b ≤ 255 → (ws : List ℕ) → Schedule ws → (n : ℕ) (m : Memory) → Enough 2 0 m → faultOf (twoVertices b ws n m) ≡ none
 unfolding Number.decode answered read planGroups vertexCountRows edgeCountRows through throughAll takeNumber taking edgesFrom header afterHeader decode faultOf scheduleOf
-not-refused ws y n m e =
-    clear-none (twoVertices ws n m) 2 []
+not-refused b k ws y n m e =
+    clear-none (twoVertices b ws n m) 2 []
     (record {
       starts = omega arith;
       ends = omega arith;
+      barred = k;
       few = omega arith;
       anchored = refl;
       guided = refl;
@@ -107,18 +109,19 @@ module _ (n : ℕ) (m : Memory) (f : Factors) (fs : List Factors) (c : Call) (e 
   unfolding planEdges memoryIn outcome search routeAfter logAfter logWord workWords firstEdges edgesBelow vertexWords markWord marked origin fresh unreached noPred
   leaves = rw (e, b, es, lent, runs f fs n, turned-once f fs n)
 
-rounds-of : (ws : List ℕ) → Schedule ws → (n : ℕ) (m : Memory) → (f : Factors) × (fs : List Factors) × (jobOf (twoVertices ws n m) ≡ job f fs)
-unfolding Number.decode answered read planGroups vertexCountRows edgeCountRows through throughAll takeNumber taking edgesFrom header afterHeader decode inForce scheduleOf house cyclic pairs tables jobIn jobFrom jobOf
-rounds-of [] y n m = (_, _, refl)
-rounds-of (u ∷ []) y n m = absurd (omega (arith, y .two))
-rounds-of (u ∷ v ∷ ws) y n m = (_, _, refl)
+rounds-of :
+    (b : ℕ) (ws : List ℕ) → Schedule ws → (n : ℕ) (m : Memory) → (f : Factors) × (fs : List Factors) × (jobOf (twoVertices b ws n m) ≡ job f fs)
+unfolding Number.decode answered read planGroups vertexCountRows edgeCountRows through throughAll takeNumber taking edgesFrom header afterHeader decode inForce scheduleOf house permitted cyclic pairs tables jobIn jobFrom jobOf
+rounds-of b [] y n m = (_, _, refl)
+rounds-of b (u ∷ []) y n m = absurd (omega (arith, y .two))
+rounds-of b (u ∷ v ∷ ws) y n m = (_, _, refl)
 
 pub two-vertices :
-    (ws : List ℕ) → Schedule ws → (n : ℕ) → 1 ≤ n → (m : Memory) → Enough 2 0 m →
-    HandsOver (twoVertices ws n m) (noRouteAfter 1) (twoVerticesAfter m)
+    (b : ℕ) → b ≤ 255 → (ws : List ℕ) → Schedule ws → (n : ℕ) → 1 ≤ n → (m : Memory) → Enough 2 0 m →
+    HandsOver (twoVertices b ws n m) (noRouteAfter 1) (twoVerticesAfter m)
 unfolding Number.decode answered read planGroups vertexCountRows edgeCountRows through throughAll takeNumber taking edgesFrom header afterHeader decode edgesIn
-two-vertices ws y zero h m e = absurd (not-suc-le-zero h)
-two-vertices ws y (suc n) h m e =
-    let c : Call = twoVertices ws (suc n) m in
-    let r = rounds-of ws y (suc n) m in
-    handed c _ _ (not-refused ws y (suc n) m e) (says n m (r .0) (r .1) c (r .2) refl refl refl) (leaves n m (r .0) (r .1) c (r .2) refl refl refl)
+two-vertices b k ws y zero h m e = absurd (not-suc-le-zero h)
+two-vertices b k ws y (suc n) h m e =
+    let c : Call = twoVertices b ws (suc n) m in
+    let r = rounds-of b ws y (suc n) m in
+    handed c _ _ (not-refused b k ws y (suc n) m e) (says n m (r .0) (r .1) c (r .2) refl refl refl) (leaves n m (r .0) (r .1) c (r .2) refl refl refl)

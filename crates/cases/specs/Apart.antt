@@ -11,22 +11,24 @@ use Rattle.search.specs.Outcome.{answerOf, figures, logWord}
 use Rattle.search.specs.Guarantee.{withPick}
 use Rattle.cases.specs.Cases.{HandsOver, routed, unfinishedAfter, unset, old}
 
--- lanes 0 to 1 at 0, 1 to 2 at 3, 1 to 3 at 5, 1 to 5 at 2, 2 to 4 at 1, 3 to 4 at 1, 5 to 3 at 1; from 0 to 4, zero anchor table, three guides
+-- lanes 0 to 1 at 0, 1 to 2 at 3, 1 to 3 at 5, 1 to 5 at 2, 2 to 4 at 1, 3 to 4 at 1, 5 to 3 at 1, of classes 1 to 7; from 0 to 4, class 0
+-- barred, which no lane has; zero anchor table, three guides
 abbrev pub jobB : Call
 jobB =
     record {
       bytes =
           (0x06 ∷ 0x07 ∷ [])
-          ++ (0x00 ∷ 0x01 ∷ 0x00 ∷ 0x01 ∷ 0x02 ∷ 0x03 ∷ 0x00 ∷ 0x03 ∷ 0x05 ∷ 0x00 ∷ 0x05 ∷ 0x02 ∷ [])
-          ++ (0x01 ∷ 0x04 ∷ 0x01 ∷ 0x01 ∷ 0x04 ∷ 0x01 ∷ 0x02 ∷ 0x03 ∷ 0x01 ∷ []);
+          ++ (0x00 ∷ 0x01 ∷ 0x00 ∷ 0x01 ∷ 0x01 ∷ 0x02 ∷ 0x03 ∷ 0x02 ∷ 0x00 ∷ 0x03 ∷ 0x05 ∷ 0x03 ∷ 0x00 ∷ 0x05 ∷ 0x02 ∷ 0x04 ∷ [])
+          ++ (0x01 ∷ 0x04 ∷ 0x01 ∷ 0x05 ∷ 0x01 ∷ 0x04 ∷ 0x01 ∷ 0x06 ∷ 0x02 ∷ 0x03 ∷ 0x01 ∷ 0x07 ∷ []);
       start = 0;
       goal = 4;
+      barred = 1;
       anchor = 0 ∷ 0 ∷ 0 ∷ 0 ∷ 0 ∷ 0 ∷ [];
       sheets = (0 ∷ 0 ∷ 3 ∷ 1 ∷ 0 ∷ 4 ∷ []) ++ (0 ∷ 0 ∷ 1 ∷ 0 ∷ 9 ∷ 1 ∷ []) ++ (0 ∷ 0 ∷ 9 ∷ 0 ∷ 9 ∷ 3 ∷ []);
       count = 3;
       schedule = 100 ∷ 250 ∷ 100 ∷ 100 ∷ [];
       budget = 100;
-      memory = record { route = replicate 6 old; log = replicate 7 old; work = replicate 45 old };
+      memory = record { route = replicate 6 old; log = replicate 7 old; work = replicate 52 old };
     }
 
 -- the same job, where guide 3 has every turn
@@ -39,21 +41,24 @@ jobC budget =
     record {
       bytes =
           (0x05 ∷ 0x05 ∷ [])
-          ++ (0x00 ∷ 0x01 ∷ 0x03 ∷ 0x00 ∷ 0x02 ∷ 0x00 ∷ 0x01 ∷ 0x03 ∷ 0x00 ∷ 0x01 ∷ 0x01 ∷ 0x01 ∷ 0x01 ∷ 0x04 ∷ 0x02 ∷ []);
+          ++ (0x00 ∷ 0x01 ∷ 0x03 ∷ 0x00 ∷ 0x00 ∷ 0x02 ∷ 0x00 ∷ 0x00 ∷ 0x01 ∷ 0x03 ∷ 0x00 ∷ 0x00 ∷ 0x01 ∷ 0x01 ∷ 0x01 ∷ 0x00 ∷ 0x01 ∷ 0x04 ∷ 0x02 ∷ 0x00 ∷ []);
       start = 0;
       goal = 4;
+      barred = 0;
       anchor = 3 ∷ 2 ∷ 3 ∷ 2 ∷ 0 ∷ [];
       sheets = [];
       count = 0;
       schedule = 300 ∷ 500 ∷ 150 ∷ 100 ∷ [];
       budget = budget;
-      memory = record { route = replicate 6 old; log = replicate 7 old; work = replicate 37 old };
+      memory = record { route = replicate 6 old; log = replicate 7 old; work = replicate 42 old };
     }
 
 -- its work memory, with the words of vertices 0 to 4
 abbrev pub workC : List ℕ → List ℕ → List ℕ → List ℕ → List ℕ → List ℕ
 workC p q r s t =
-    (0 ∷ 2 ∷ 3 ∷ 4 ∷ 5 ∷ 5 ∷ []) ++ (1 ∷ 2 ∷ 3 ∷ 1 ∷ 4 ∷ []) ++ (3 ∷ 0 ∷ 0 ∷ 1 ∷ 2 ∷ []) ++ p ++ q ++ r ++ s ++ t ++ (old ∷ [])
+    (0 ∷ 2 ∷ 3 ∷ 4 ∷ 5 ∷ 5 ∷ [])
+    ++ (1 ∷ 2 ∷ 3 ∷ 1 ∷ 4 ∷ []) ++ (3 ∷ 0 ∷ 0 ∷ 1 ∷ 2 ∷ []) ++ (0 ∷ 0 ∷ 0 ∷ 0 ∷ 0 ∷ [])
+    ++ p ++ q ++ r ++ s ++ t ++ (old ∷ [])
 
 -- a round with W1 = W2
 abbrev pub alike : ℕ → Factors
@@ -81,6 +86,7 @@ pub record Apart : Type 0 where
             (0 ∷ 1 ∷ 4 ∷ 5 ∷ 6 ∷ 6 ∷ 7 ∷ [])
             ++ (1 ∷ 2 ∷ 3 ∷ 5 ∷ 4 ∷ 4 ∷ 3 ∷ [])
             ++ (0 ∷ 3 ∷ 5 ∷ 2 ∷ 1 ∷ 1 ∷ 1 ∷ [])
+            ++ (1 ∷ 2 ∷ 3 ∷ 4 ∷ 5 ∷ 6 ∷ 7 ∷ [])
             ++ (0 ∷ 0 ∷ unset ∷ 0 ∷ [])
             ++ (0 ∷ 0 ∷ 0 ∷ 0 ∷ [])
             ++ (3 ∷ 3 ∷ 1 ∷ 2 ∷ [])

@@ -1,4 +1,4 @@
--- The cases that document 01 marks (p), one row each in one table. Proved in proofs/Cases.antt.
+-- The cases that document 01 marks (p), one row each in one table, with classes and barred numbers as document 02 (E1) has them. Proved in proofs/Cases.antt.
 use Prim.Native.Nat.{ℕ, _+_, _-_, _*_, _≤_}
 use mathlib.Core.Path.{_≡_}
 use mathlib.Core.List.{List, [], _∷_, _++_}
@@ -38,7 +38,7 @@ refusedAt number position =
 -- plan bytes are refused, n at p: where they are read, where they are read into lists, and by every planner call, which leaves memory as it is
 pub record PlanRefused (bytes : List ℕ) (n p : ℕ) : Type 0 where
   pub decoded : decode bytes ≡ Plan.refused n p
-  pub read : (ts hs cs : List ℕ) → readAnswer bytes ts hs cs ≡ Refused n p
+  pub read : (ts hs cs ks : List ℕ) → readAnswer bytes ts hs cs ks ≡ Refused n p
   pub called : (c : Call) → c .bytes ≡ bytes → HandsOver c (refusedAt n p) (c .memory)
 
 -- ---- plan A and job A
@@ -53,15 +53,16 @@ unset = 4294967295
 
 -- lent memory: in each a word more than job A needs
 abbrev pub lent : Memory
-lent = record { route = replicate 5 old; log = replicate 5 old; work = replicate 30 old }
+lent = record { route = replicate 5 old; log = replicate 5 old; work = replicate 34 old }
 
--- job A with this anchor table and allowance
-abbrev pub callA : List ℕ → ℕ → Call
-callA anchor budget =
+-- job A with this plan, barred number, anchor table and allowance
+abbrev pub callOn : List ℕ → ℕ → List ℕ → ℕ → Call
+callOn plan barred anchor budget =
     record {
-      bytes = planA;
+      bytes = plan;
       start = 0;
       goal = 3;
+      barred = barred;
       anchor = anchor;
       sheets = 0 ∷ 9 ∷ 0 ∷ 0 ∷ [];
       count = 1;
@@ -70,23 +71,34 @@ callA anchor budget =
       memory = lent;
     }
 
-abbrev pub jobA : ℕ → Call
-jobA budget = callA (6 ∷ 5 ∷ 3 ∷ 0 ∷ []) budget
+-- plan A, no class barred
+abbrev pub callA : List ℕ → ℕ → Call
+callA anchor budget = callOn planA 0 anchor budget
 
--- work memory: first edge numbers (the last is M), heads, costs, then the words of vertices 0 to 3, and one word as it was
+abbrev pub anchorA : List ℕ
+anchorA = 6 ∷ 5 ∷ 3 ∷ 0 ∷ []
+
+abbrev pub jobA : ℕ → Call
+jobA budget = callA anchorA budget
+
+-- work memory: first edge numbers (the last is M), heads, costs, these classes, then the words of vertices 0 to 3, and one word as it was
+abbrev pub workWith : List ℕ → List ℕ → List ℕ → List ℕ → List ℕ → List ℕ
+workWith classes p q r s =
+    (0 ∷ 2 ∷ 3 ∷ 4 ∷ 4 ∷ []) ++ (1 ∷ 2 ∷ 2 ∷ 3 ∷ []) ++ (1 ∷ 4 ∷ 2 ∷ 3 ∷ []) ++ classes ++ p ++ q ++ r ++ s ++ (old ∷ [])
+
 abbrev pub workA : List ℕ → List ℕ → List ℕ → List ℕ → List ℕ
-workA p q r s =
-    (0 ∷ 2 ∷ 3 ∷ 4 ∷ 4 ∷ []) ++ (1 ∷ 2 ∷ 2 ∷ 3 ∷ []) ++ (1 ∷ 4 ∷ 2 ∷ 3 ∷ []) ++ p ++ q ++ r ++ s ++ (old ∷ [])
+workA p q r s = workWith (0 ∷ 0 ∷ 0 ∷ 0 ∷ []) p q r s
 
 -- ---- `02 00`, from 0 to 1
 
 -- zero anchor table, no guides
-abbrev pub twoVertices : List ℕ → ℕ → Memory → Call
-twoVertices schedule budget memory =
+abbrev pub twoVertices : ℕ → List ℕ → ℕ → Memory → Call
+twoVertices barred schedule budget memory =
     record {
       bytes = 0x02 ∷ 0x00 ∷ [];
       start = 0;
       goal = 1;
+      barred = barred;
       anchor = 0 ∷ 0 ∷ [];
       sheets = [];
       count = 0;
@@ -95,10 +107,10 @@ twoVertices schedule budget memory =
       memory = memory;
     }
 
--- lent memory that is large enough: V words of route memory, 5V+1+2M of work memory
+-- lent memory that is large enough: V words of route memory, 5V+1+3M of work memory
 pub record Enough (v m : ℕ) (memory : Memory) : Type 0 where
   pub route : v ≤ length (memory .route)
-  pub work : 5 * v + 1 + 2 * m ≤ length (memory .work)
+  pub work : 5 * v + 1 + 3 * m ≤ length (memory .work)
 
 -- memory after it: route memory as it was, one turn logged (vertex 0, the anchor), and work memory: three first edge numbers, two vertices
 abbrev pub twoVerticesAfter : Memory → Memory
@@ -157,10 +169,10 @@ pub record Cases : Type 0 where
       })
   -- the same three from job bytes, as the bench program prints them
   pub job-A-prints : PrintsA
-  -- (p) `02 00`, 0 to 1, zero anchor table, no guides, allowance 1 or more: no route, 1 turn
+  -- (p) `02 00`, 0 to 1, zero anchor table, no guides, allowance 1 or more: no route, 1 turn; whatever classes are barred
   pub two-vertices :
-      (ws : List ℕ) → Schedule ws → (budget : ℕ) → 1 ≤ budget → (m : Memory) → Enough 2 0 m →
-      HandsOver (twoVertices ws budget m) (noRouteAfter 1) (twoVerticesAfter m)
+      (barred : ℕ) → barred ≤ 255 → (ws : List ℕ) → Schedule ws → (budget : ℕ) → 1 ≤ budget → (m : Memory) → Enough 2 0 m →
+      HandsOver (twoVertices barred ws budget m) (noRouteAfter 1) (twoVerticesAfter m)
   -- (p) Start = goal, allowance 0, valid tables: cost 0, every round finished. So of every call that is not refused
   pub start-is-goal : (c : Call) → Admitted c → c .start ≡ c .goal → HandsOver c (allRounds c) (startAlone c)
   -- (p) no bytes: 1 at 0

@@ -1,4 +1,4 @@
--- Instances of the guarantee: job A, and job B under another rule for whose turn it is. Proved in proofs/Instance.antt.
+-- Instances of the guarantee: job A, job A with a barred lane, and job B under another rule for whose turn it is. Proved in proofs/Instance.antt.
 use Prim.Native.Nat.{ℕ, _*_, _≤_}
 use mathlib.Core.Path.{_≡_}
 use mathlib.Core.List.{List, [], _∷_}
@@ -10,9 +10,10 @@ use Rattle.search.specs.Outcome.{outcome, answer, memoryAfter}
 use Rattle.search.specs.Guarantee.{Joins, Guarantee}
 use Rattle.cases.specs.Cases.{jobA}
 use Rattle.cases.specs.Apart.{jobB3}
+use Rattle.cases.specs.Barred.{rampA}
 
 abbrev pub edge : ℕ → ℕ → ℕ → Edge
-edge tail head cost = record { tail = tail; head = head; cost = cost }
+edge tail head cost = record { tail = tail; head = head; cost = cost; class = 0 }
 
 -- the lanes of plan A
 abbrev pub edgesA : List Edge
@@ -25,5 +26,8 @@ pub record Instance : Type 0 where
   pub guarantee : Guarantee (jobOf (jobA 100)) 100 (outcome (jobA 100)) (answer (jobA 100)) (memoryAfter (jobA 100))
   -- and says of the kept cost, 6, and every chain from 0 to 3
   pub bounded : (r : List ℕ) (n : ℕ) → Walk edgesA 0 3 r n → 10000 * 6 ≤ 10000 * n
+  -- with lane 0→1 barred, chains are those over the other three lanes, and the kept cost is 7
+  pub permitted-edges : jobOf (rampA 2) .edges ≡ edge 0 2 4 ∷ edge 1 2 2 ∷ edge 2 3 3 ∷ []
+  pub barred : (r : List ℕ) (n : ℕ) → Joins (jobOf (rampA 2)) r n → 7 ≤ n
   -- so it does of job B where guide 3 has every turn, whose kept cost is 4
   pub any-rule : (r : List ℕ) (n : ℕ) → Joins jobB3 r n → 10000 * 4 ≤ 10000 * n

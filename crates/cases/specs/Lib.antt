@@ -2,3 +2,4 @@
 pub mod Cases
 pub mod Instance
 pub mod Apart
+pub mod Barred

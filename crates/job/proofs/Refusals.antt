@@ -77,7 +77,7 @@ module _ (s : List ℕ) (f : Front) (v : ℕ) (r : Ready s f v) where
   memory-clear m h =
       simp (
         le-ltb routeSize v (r .vertices),
-        le-ltb workSize (5 * v + 1 + 2 * m) (omega (arith, r .vertices)),
+        le-ltb workSize (5 * v + 1 + 3 * m) (omega (arith, r .vertices)),
       )
 
   own-by : (n p : ℕ) (d : Decoded) → sizes d ≡ checked.Sizes v (r .edges) → faultIn (callAsked s f v) d ≡ fault n p → Own n

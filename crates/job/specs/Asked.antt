@@ -35,7 +35,7 @@ abbrev pub logSize : ℕ
 logSize = 8192
 
 abbrev pub workSize : ℕ
-workSize = 5 * maxJobVertices + 1 + 2 * maxJobEdges
+workSize = 5 * maxJobVertices + 1 + 3 * maxJobEdges
 
 unfoldable pub zeros : Memory
 zeros = record { route = replicate routeSize 0; log = replicate logSize 0; work = replicate workSize 0 }
@@ -49,6 +49,7 @@ callWith plan f anchor sheets schedule =
       bytes = plan;
       start = f .start;
       goal = f .goal;
+      barred = f .barred;
       anchor = anchor;
       sheets = sheets;
       count = f .«guide_count»;

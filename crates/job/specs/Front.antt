@@ -1,4 +1,4 @@
--- A bench job's bytes up to the guide count: plan length, the plan, start, goal, allowance, rounds and factors, guide count.
+-- A bench job's bytes up to the guide count: plan length, the plan, start, goal, barred number, allowance, rounds and factors, guide count.
 use Prim.Native.Nat.{ℕ, _+_, _*_}
 use mathlib.Core.Bool.{cond}
 use mathlib.Core.List.{List}
@@ -34,8 +34,8 @@ past (Past next) rest = rest next
 past Malformed rest = Refused
 
 -- rounds and factors, guide count
-unfoldable pub rounds : List ℕ → ℕ → ℕ → ℕ → ℕ → ℕ → ℕ → FrontRead
-rounds s planAt planEnd start goal budget at =
+unfoldable pub rounds : List ℕ → ℕ → ℕ → ℕ → ℕ → ℕ → ℕ → ℕ → FrontRead
+rounds s planAt planEnd start goal barred budget at =
     following (read jobGroups s at) (λ roundCount factorsAt.
     cond (ltb maxJobRounds roundCount) Refused
     (past (endOf (2 * roundCount) s factorsAt) (λ guidesAt.
@@ -47,6 +47,7 @@ rounds s planAt planEnd start goal budget at =
       «plan_end» = planEnd;
       start = start;
       goal = goal;
+      barred = barred;
       budget = budget;
       «round_count» = roundCount;
       «factors_at» = factorsAt;
@@ -54,13 +55,14 @@ rounds s planAt planEnd start goal budget at =
       «tables_at» = tablesAt;
     }))))))
 
--- start, goal, allowance
+-- start, goal, barred number, allowance
 unfoldable pub ends : List ℕ → ℕ → ℕ → FrontRead
 ends s planAt planEnd =
     following (read jobGroups s planEnd) (λ start goalAt.
-    following (read jobGroups s goalAt) (λ goal budgetAt.
+    following (read jobGroups s goalAt) (λ goal barredAt.
+    following (read jobGroups s barredAt) (λ barred budgetAt.
     following (read jobGroups s budgetAt) (λ budget at.
-    rounds s planAt planEnd start goal budget at)))
+    rounds s planAt planEnd start goal barred budget at))))
 
 -- plan length, the plan
 unfoldable pub front : List ℕ → FrontRead

@@ -31,7 +31,7 @@ maxJobVertices = 256
 abbrev pub maxJobEdges : ℕ
 maxJobEdges = 2048
 
--- ---- the plan next: 1 to 7, with positions inside it
+-- ---- the plan next: 1 to 7 and 15, with positions inside it
 
 unfoldable pub planOf : List ℕ → Front → List ℕ
 planOf s f = take (f .«plan_end» - f .«plan_at») (drop (f .«plan_at») s)

@@ -21,7 +21,7 @@ pub data Own : ℕ → Type 0 where
   goal : Own 12
   edge : Own 13
 
--- 1 to 7 came before it, and 9 and 11 cannot occur
+-- 1 to 7 and 15 came before it, and 9 and 11 cannot occur
 pub record OwnRefusals : Type 0 where
   pub own : (s : List ℕ) (f : Front) (v n p : ℕ) → jobRead s ≡ Accepted f v → faultOf (callAsked s f v) ≡ fault n p → Own n
 
