@@ -1,5 +1,5 @@
-// Jobs of the bench program, as bytes, up to the guide count: plan length, the plan, start, goal, allowance,
-// rounds and factors, guide count.
+// Jobs of the bench program, as bytes, up to the guide count: plan length, the plan, start, goal, barred number,
+// allowance, rounds and factors, guide count.
 ghost use mathlib.Core.Path.{_≡_};
 ghost use Rattle.job.specs.Front.{front, ends, rounds};
 use crate::numbers;
@@ -20,10 +20,11 @@ fn read_rounds(
     plan_end: usize,
     start: u32,
     goal: u32,
+    barred: u32,
     budget: u32,
     at: usize,
 ) -> FrontRead
-    ensures { λ r. ⌜ r ≡ rounds (now (job .entry)) «plan_at» «plan_end» start goal budget at ⌝ }
+    ensures { λ r. ⌜ r ≡ rounds (now (job .entry)) «plan_at» «plan_end» start goal barred budget at ⌝ }
 {
     let NumberRead::Value(round_count, factors_at) = leb128_reader::read_job_number(job, at) else {
         return FrontRead::Refused;
@@ -47,6 +48,7 @@ fn read_rounds(
         plan_end,
         start,
         goal,
+        barred,
         budget,
         round_count,
         factors_at,
@@ -55,20 +57,24 @@ fn read_rounds(
     })
 }
 
-// Start, goal and budget, and what follows.
+// Start, goal, the barred classes and budget, and what follows.
 fn read_ends(job: &[u8], plan_at: usize, plan_end: usize) -> FrontRead
     ensures { λ r. ⌜ r ≡ ends (now (job .entry)) «plan_at» «plan_end» ⌝ }
 {
     let NumberRead::Value(start, goal_at) = leb128_reader::read_job_number(job, plan_end) else {
         return FrontRead::Refused;
     };
-    let NumberRead::Value(goal, budget_at) = leb128_reader::read_job_number(job, goal_at) else {
+    let NumberRead::Value(goal, barred_at) = leb128_reader::read_job_number(job, goal_at) else {
+        return FrontRead::Refused;
+    };
+    let NumberRead::Value(barred, budget_at) = leb128_reader::read_job_number(job, barred_at)
+    else {
         return FrontRead::Refused;
     };
     let NumberRead::Value(budget, at) = leb128_reader::read_job_number(job, budget_at) else {
         return FrontRead::Refused;
     };
-    read_rounds(job, plan_at, plan_end, start, goal, budget, at)
+    read_rounds(job, plan_at, plan_end, start, goal, barred, budget, at)
 }
 
 // Where the plan begins and ends, and what follows.

@@ -1,5 +1,5 @@
-// A bench job read whole, refused or accepted: plan length, the plan, start, goal, allowance, rounds and
-// factors, guide count, anchor table, guide sheets.
+// A bench job read whole, refused or accepted: plan length, the plan, start, goal, barred number, allowance,
+// rounds and factors, guide count, anchor table, guide sheets.
 mod front;
 mod numbers;
 pub mod storing;
