@@ -19,7 +19,7 @@ const ROUTE: usize = 256;
 
 const LOG: usize = 8192;
 
-const WORK: usize = 5377;
+const WORK: usize = 7425;
 
 // The planner call, and what it hands over printed.
 fn plan_call(
@@ -39,6 +39,7 @@ fn plan_call(
         plan,
         front.start,
         front.goal,
+        front.barred,
         anchor,
         sheets,
         front.guide_count,

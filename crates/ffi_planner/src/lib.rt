@@ -32,6 +32,7 @@ pub extern "C" fn secondcoop_plan(
     bytes: &[u8],
     start: u32,
     goal: u32,
+    barred: u32,
     anchor: &[u32],
     guides: &[u32],
     guide_count: u32,
@@ -42,12 +43,13 @@ pub extern "C" fn secondcoop_plan(
     work: &mut [u32],
     figures: &mut [u64; 8],
 )
-    ensures { λ r. ⌜ Exported (callOf (now (bytes .entry)) start goal (now (anchor .entry)) (now (guides .entry)) «guide_count» (now (schedule .entry)) budget (memoryOf (now (route .entry)) (now (log .entry)) (now (work .entry)))) (now (figures .exit)) (memoryOf (now (route .exit)) (now (log .exit)) (now (work .exit))) ⌝ }
+    ensures { λ r. ⌜ Exported (callOf (now (bytes .entry)) start goal barred (now (anchor .entry)) (now (guides .entry)) «guide_count» (now (schedule .entry)) budget (memoryOf (now (route .entry)) (now (log .entry)) (now (work .entry)))) (now (figures .exit)) (memoryOf (now (route .exit)) (now (log .exit)) (now (work .exit))) ⌝ }
 {
     let answer = planner::plan(
         bytes,
         start,
         goal,
+        barred,
         anchor,
         guides,
         guide_count,

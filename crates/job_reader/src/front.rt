@@ -67,8 +67,7 @@ fn read_ends(job: &[u8], plan_at: usize, plan_end: usize) -> FrontRead
     let NumberRead::Value(goal, barred_at) = leb128_reader::read_job_number(job, goal_at) else {
         return FrontRead::Refused;
     };
-    let NumberRead::Value(barred, budget_at) = leb128_reader::read_job_number(job, barred_at)
-    else {
+    let NumberRead::Value(barred, budget_at) = leb128_reader::read_job_number(job, barred_at) else {
         return FrontRead::Refused;
     };
     let NumberRead::Value(budget, at) = leb128_reader::read_job_number(job, budget_at) else {

@@ -53,7 +53,6 @@ module _ (c : Call) where
   unfolding jobOf
   job-schedule = by-schedule (decode (c .bytes))
 
-
   by-pick : (d : Decoded) → jobFrom c d .pick ≡ cyclic
   unfolding jobFrom jobIn
   by-pick (accepted v es) = refl

@@ -29,7 +29,18 @@ pub fn advance(
         Step::Finished => s,
         Step::Due(m, a) => {
             let f = schedule::factors(schedule, p.rounds);
-            turn::turn(work, log, guides, z, q.barred, f, m, a, p.turn, p.expansions);
+            turn::turn(
+                work,
+                log,
+                guides,
+                z,
+                q.barred,
+                f,
+                m,
+                a,
+                p.turn,
+                p.expansions,
+            );
             let next = progress::after_turn(q.guides, p);
             let left = schedule::rounds(schedule) - next.rounds;
             rounds::settle(left, work, route, anchor, schedule, z, q, next)

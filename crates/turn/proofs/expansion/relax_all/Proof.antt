@@ -29,8 +29,7 @@ loop-holds c = tried-none _ _ _ _ _ _ _ (c .before .before .before .before .befo
 try-edge-requires : tie.Need-try-edge-requires Inv-loop μ-loop
 try-edge-requires c κs =
     let a = c .before .before .before .before .before .before .before .before in
-    let l = c .before .before .loop in
-    (
+    let l = c .before .before .loop in (
       tried-ready _ _ _ _ _ _ _ (a .pre .0) (mem (l .work)) (l .j) (l .inv),
       omega (arith, a .pre .0 .graph .ends (a .args .s) (a .pre .1), rw add-one at (c .before .before .before .first-edge2 .ensures), c .before .loop-test .taken),
     )
