@@ -18,12 +18,18 @@ planWith class =
 abbrev pub planA : List ℕ
 planA = planWith 0x00
 
--- job A, which bars no class, as bytes, with an allowance of one byte; document 01's is 0x64
-abbrev pub jobA : ℕ → List ℕ
-jobA budget =
+-- job A as bytes, with lane 0→1 of this class, these bytes of the barred number, and an allowance of one byte
+abbrev pub jobWith : ℕ → List ℕ → ℕ → List ℕ
+jobWith class barred budget =
     0x12
-    ∷ (planA
-    ++ (0x00 ∷ 0x03 ∷ 0x00 ∷ budget ∷ 0x02 ∷ 0xC8 ∷ 0x01 ∷ 0xC8 ∷ 0x01 ∷ 0x64 ∷ 0x64 ∷ 0x01 ∷ 0x06 ∷ 0x05 ∷ 0x03 ∷ 0x00 ∷ 0x00 ∷ 0x09 ∷ 0x00 ∷ 0x00 ∷ []))
+    ∷ (planWith class
+    ++ (0x00 ∷ 0x03 ∷ [])
+    ++ barred
+    ++ (budget ∷ 0x02 ∷ 0xC8 ∷ 0x01 ∷ 0xC8 ∷ 0x01 ∷ 0x64 ∷ 0x64 ∷ 0x01 ∷ 0x06 ∷ 0x05 ∷ 0x03 ∷ 0x00 ∷ 0x00 ∷ 0x09 ∷ 0x00 ∷ 0x00 ∷ []))
+
+-- no class is barred; document 01's allowance is 0x64
+abbrev pub jobA : ℕ → List ℕ
+jobA budget = jobWith 0x00 (0x00 ∷ []) budget
 
 pub record PrintsA : Type 0 where
   -- (p) Job A: document 01's six lines
@@ -37,3 +43,12 @@ pub record PrintsA : Type 0 where
       ≡ ascii "turn 1 table 1 place 0\nturn 2 table 1 place 2\nroute 0 2 3\nend cost 7 rounds 1 turns 2 bound 40000\n"
   -- (p) allowance 1: unfinished
   pub at-1 : benchText (jobA 1) ≡ ascii "turn 1 table 1 place 0\nunfinished turns 1\n"
+  -- class 1, which lane 0→1 has, barred
+  pub barred :
+      benchText (jobWith 0x01 (0x02 ∷ []) 0x64)
+      ≡ ascii "turn 1 table 1 place 0\nturn 2 table 1 place 2\nroute 0 2 3\nend cost 7 rounds 2 turns 2 bound 10000\n"
+  -- a barred number of 256: 8; of bad form (here not shortest): 14
+  pub barred-256 : benchText (jobWith 0x00 (0x80 ∷ 0x02 ∷ []) 0x64) ≡ ascii "refused 8 at 0\n"
+  pub barred-malformed : benchText (jobWith 0x00 (0x80 ∷ 0x00 ∷ []) 0x64) ≡ ascii "refused 14 at 0\n"
+  -- class 8: 15, at its offset in the plan
+  pub class-8 : benchText (jobWith 0x08 (0x00 ∷ []) 0x64) ≡ ascii "refused 15 at 5\n"

@@ -24,23 +24,13 @@ pub fn advance(
 {
     let step = s.step;
     let p = s.progress;
+    let barred = q.barred;
     match step {
         Step::Stuck => s,
         Step::Finished => s,
         Step::Due(m, a) => {
             let f = schedule::factors(schedule, p.rounds);
-            turn::turn(
-                work,
-                log,
-                guides,
-                z,
-                q.barred,
-                f,
-                m,
-                a,
-                p.turn,
-                p.expansions,
-            );
+            turn::turn(work, log, guides, z, barred, f, m, a, p.turn, p.expansions);
             let next = progress::after_turn(q.guides, p);
             let left = schedule::rounds(schedule) - next.rounds;
             rounds::settle(left, work, route, anchor, schedule, z, q, next)
