@@ -18,6 +18,7 @@ struct BenchJob<'a> {
     plan: &'a [u8],
     start: u32,
     goal: u32,
+    barred: u32,
     budget: u32,
     schedule: Vec<u32>,
     guide_count: u32,
@@ -53,7 +54,8 @@ impl<'a> BenchJob<'a> {
         let mut numbers = Numbers { bytes };
         let plan_length = numbers.number()?;
         let plan = numbers.take(plan_length)?;
-        let (start, goal, budget) = (numbers.number()?, numbers.number()?, numbers.number()?);
+        let (start, goal) = (numbers.number()?, numbers.number()?);
+        let (barred, budget) = (numbers.number()?, numbers.number()?);
         let rounds = numbers.number()?;
         if rounds > 16 {
             return None;
@@ -69,6 +71,7 @@ impl<'a> BenchJob<'a> {
             plan,
             start,
             goal,
+            barred,
             budget,
             schedule,
             guide_count,
@@ -118,6 +121,7 @@ pub fn bench_text_by(bytes: &[u8], fault: Option<Fault>) -> String {
         bytes: job.plan,
         start: job.start,
         goal: job.goal,
+        barred: job.barred,
         anchor: &anchor,
         guides: &guides,
         guide_count: job.guide_count,

@@ -3,7 +3,7 @@
 
 use crate::ffi::{self, Figures};
 use crate::guarded::Guarded;
-use crate::reference::{self, Refusal};
+use crate::reference::{self, Refusal, LAST_REFUSAL};
 
 /// The six calls on plan bytes, each leaving four figures.
 pub trait Codec {
@@ -17,6 +17,7 @@ pub trait Codec {
         tails: &mut [u32],
         heads: &mut [u32],
         costs: &mut [u32],
+        classes: &mut [u32],
     ) -> Figures;
     fn write_plan(
         &self,
@@ -24,6 +25,7 @@ pub trait Codec {
         tails: &[u32],
         heads: &[u32],
         costs: &[u32],
+        classes: &[u32],
         out: &mut [u8],
     ) -> Figures;
 }
@@ -50,8 +52,9 @@ impl Codec for Library {
         tails: &mut [u32],
         heads: &mut [u32],
         costs: &mut [u32],
+        classes: &mut [u32],
     ) -> Figures {
-        ffi::read_plan(bytes, tails, heads, costs)
+        ffi::read_plan(bytes, tails, heads, costs, classes)
     }
     fn write_plan(
         &self,
@@ -59,9 +62,10 @@ impl Codec for Library {
         tails: &[u32],
         heads: &[u32],
         costs: &[u32],
+        classes: &[u32],
         out: &mut [u8],
     ) -> Figures {
-        ffi::write_plan(vertices, tails, heads, costs, out)
+        ffi::write_plan(vertices, tails, heads, costs, classes, out)
     }
 }
 
@@ -106,8 +110,9 @@ impl Codec for Reference {
         tails: &mut [u32],
         heads: &mut [u32],
         costs: &mut [u32],
+        classes: &mut [u32],
     ) -> Figures {
-        two_values(reference::read_plan(bytes, tails, heads, costs))
+        two_values(reference::read_plan(bytes, tails, heads, costs, classes))
     }
     fn write_plan(
         &self,
@@ -115,9 +120,12 @@ impl Codec for Reference {
         tails: &[u32],
         heads: &[u32],
         costs: &[u32],
+        classes: &[u32],
         out: &mut [u8],
     ) -> Figures {
-        one_value(reference::write_plan(vertices, tails, heads, costs, out))
+        one_value(reference::write_plan(
+            vertices, tails, heads, costs, classes, out,
+        ))
     }
 }
 
@@ -142,19 +150,23 @@ pub enum Case {
     },
     ReadPlan {
         bytes: Vec<u8>,
-        room: [usize; 3],
+        room: [usize; 4],
     },
     WritePlan {
         vertices: u32,
         tails: Vec<u32>,
         heads: Vec<u32>,
         costs: Vec<u32>,
+        classes: Vec<u32>,
         room: usize,
     },
 }
 
 /// How many kinds of case there are.
 pub const KINDS: usize = 6;
+
+/// Cases by refusal number; a number that the paper does not name is the last.
+pub type Tally = [u64; LAST_REFUSAL as usize + 2];
 
 impl Case {
     /// The number of this kind of case.
@@ -188,33 +200,64 @@ pub struct Outcome {
     pub words: Vec<Vec<u32>>,
 }
 
+/// The outcome of a call that only reads bytes.
+fn run_on_bytes(bytes: &[u8], salt: u64, call: impl FnOnce(&[u8]) -> Figures) -> Outcome {
+    let bytes = Guarded::with_contents(bytes, salt);
+    let figures = call(bytes.lent());
+    Outcome {
+        figures,
+        bytes: vec![bytes.all],
+        words: vec![],
+    }
+}
+
+/// Reads a plan into lists of so much room.
+fn run_read_plan(codec: &dyn Codec, bytes: &[u8], room: &[usize; 4], salt: u64) -> Outcome {
+    let bytes = Guarded::with_contents(bytes, salt);
+    let mut list = salt;
+    let mut lists = room.map(|room| {
+        list += 1;
+        Guarded::<u32>::with_room(room, list)
+    });
+    let [tails, heads, costs, classes] = lists.each_mut().map(Guarded::lent_mut);
+    let figures = codec.read_plan(bytes.lent(), tails, heads, costs, classes);
+    Outcome {
+        figures,
+        bytes: vec![bytes.all],
+        words: lists.map(|list| list.all).into(),
+    }
+}
+
+/// Writes a plan from tails, heads, costs and classes into so much room.
+fn run_write_plan(
+    codec: &dyn Codec,
+    vertices: u32,
+    lists: [&[u32]; 4],
+    room: usize,
+    salt: u64,
+) -> Outcome {
+    let lists = lists.map(|list| Guarded::with_contents(list, salt));
+    let mut out = Guarded::<u8>::with_room(room, salt);
+    let [tails, heads, costs, classes] = lists.each_ref().map(Guarded::lent);
+    let figures = codec.write_plan(vertices, tails, heads, costs, classes, out.lent_mut());
+    Outcome {
+        figures,
+        bytes: vec![out.all],
+        words: lists.map(|list| list.all).into(),
+    }
+}
+
 /// Runs a case; `salt` selects the pattern that fills the memory.
 pub fn run(codec: &dyn Codec, case: &Case, salt: u64) -> Outcome {
-    let bytes_of = |contents: &[u8]| Guarded::with_contents(contents, salt);
-    let words_of = |contents: &[u32]| Guarded::with_contents(contents, salt);
-    let empty_bytes = |room| Guarded::<u8>::with_room(room, salt);
-    let empty_words = |room, list| Guarded::<u32>::with_room(room, salt + list);
     match case {
         Case::ReadPlanNumber { bytes, at } => {
-            let bytes = bytes_of(bytes);
-            let figures = codec.read_plan_number(bytes.lent(), *at);
-            Outcome {
-                figures,
-                bytes: vec![bytes.all],
-                words: vec![],
-            }
+            run_on_bytes(bytes, salt, |bytes| codec.read_plan_number(bytes, *at))
         }
         Case::ReadJobNumber { bytes, at } => {
-            let bytes = bytes_of(bytes);
-            let figures = codec.read_job_number(bytes.lent(), *at);
-            Outcome {
-                figures,
-                bytes: vec![bytes.all],
-                words: vec![],
-            }
+            run_on_bytes(bytes, salt, |bytes| codec.read_job_number(bytes, *at))
         }
         Case::WritePlanNumber { room, at, value } => {
-            let mut out = empty_bytes(*room);
+            let mut out = Guarded::<u8>::with_room(*room, salt);
             let figures = codec.write_plan_number(out.lent_mut(), *at, *value);
             Outcome {
                 figures,
@@ -222,53 +265,18 @@ pub fn run(codec: &dyn Codec, case: &Case, salt: u64) -> Outcome {
                 words: vec![],
             }
         }
-        Case::CheckPlan { bytes } => {
-            let bytes = bytes_of(bytes);
-            let figures = codec.check_plan(bytes.lent());
-            Outcome {
-                figures,
-                bytes: vec![bytes.all],
-                words: vec![],
-            }
-        }
-        Case::ReadPlan { bytes, room } => {
-            let bytes = bytes_of(bytes);
-            let mut tails = empty_words(room[0], 1);
-            let mut heads = empty_words(room[1], 2);
-            let mut costs = empty_words(room[2], 3);
-            let figures = codec.read_plan(
-                bytes.lent(),
-                tails.lent_mut(),
-                heads.lent_mut(),
-                costs.lent_mut(),
-            );
-            Outcome {
-                figures,
-                bytes: vec![bytes.all],
-                words: vec![tails.all, heads.all, costs.all],
-            }
-        }
+        Case::CheckPlan { bytes } => run_on_bytes(bytes, salt, |bytes| codec.check_plan(bytes)),
+        Case::ReadPlan { bytes, room } => run_read_plan(codec, bytes, room, salt),
         Case::WritePlan {
             vertices,
             tails,
             heads,
             costs,
+            classes,
             room,
         } => {
-            let (tails, heads, costs) = (words_of(tails), words_of(heads), words_of(costs));
-            let mut out = empty_bytes(*room);
-            let figures = codec.write_plan(
-                *vertices,
-                tails.lent(),
-                heads.lent(),
-                costs.lent(),
-                out.lent_mut(),
-            );
-            Outcome {
-                figures,
-                bytes: vec![out.all],
-                words: vec![tails.all, heads.all, costs.all],
-            }
+            let lists = [&tails[..], heads, costs, classes];
+            run_write_plan(codec, *vertices, lists, *room, salt)
         }
     }
 }
@@ -278,7 +286,7 @@ pub struct Comparison<'a> {
     left: &'a dyn Codec,
     right: &'a dyn Codec,
     /// Cases by kind and refusal number, as the right side answers.
-    pub tally: [[u64; 16]; KINDS],
+    pub tally: [Tally; KINDS],
     /// All cases.
     pub cases: u64,
     /// Cases whose answer was known from their making.
@@ -290,7 +298,7 @@ impl<'a> Comparison<'a> {
         Comparison {
             left,
             right,
-            tally: [[0; 16]; KINDS],
+            tally: [Tally::default(); KINDS],
             cases: 0,
             known: 0,
         }
@@ -302,7 +310,8 @@ impl<'a> Comparison<'a> {
         let left = run(self.left, case, self.cases);
         let right = run(self.right, case, self.cases);
         self.cases += 1;
-        self.tally[case.kind()][(right.figures[0] as usize).min(15)] += 1;
+        let tally = &mut self.tally[case.kind()];
+        tally[(right.figures[0] as usize).min(tally.len() - 1)] += 1;
         if let Some(known) = known {
             self.known += 1;
             if left.figures != known {
@@ -364,12 +373,12 @@ mod tests {
     fn an_outcome_holds_the_guards() {
         let case = Case::ReadPlan {
             bytes: vec![1, 0],
-            room: [0, 1, 5],
+            room: [0, 1, 5, 3],
         };
         let outcome = run(&Reference, &case, 3);
         assert_eq!(outcome.figures, [0, 0, 1, 0]);
         let lengths: Vec<usize> = outcome.words.iter().map(Vec::len).collect();
-        assert_eq!(lengths, [2 * GUARD, 2 * GUARD + 1, 2 * GUARD + 5]);
+        assert_eq!(lengths, [0, 1, 5, 3].map(|room| 2 * GUARD + room));
         assert_eq!(outcome.bytes[0].len(), 2 * GUARD + 2);
         for index in 0..GUARD {
             let mut changed = outcome.clone();
@@ -377,6 +386,9 @@ mod tests {
             assert_ne!(changed, outcome);
             let mut changed = outcome.clone();
             changed.words[2][GUARD + 5 + index] ^= 1;
+            assert_ne!(changed, outcome);
+            let mut changed = outcome.clone();
+            changed.words[3][GUARD + 3 + index] ^= 1;
             assert_ne!(changed, outcome);
         }
     }

@@ -1,9 +1,10 @@
 //! Counting the rare events of searches and the shapes of jobs, so that
 //! tests can require that they occurred.
 
+use crate::dijkstra;
+use crate::generate::Plan;
 use crate::jobs::Job;
-use crate::planner::{Answer, Event};
-use crate::reference;
+use crate::planner::{Answer, Event, MOST_BARRED};
 
 /// How often each event was met; see [`Events::names`].
 #[derive(Clone, Debug, Default, PartialEq, Eq)]
@@ -77,6 +78,17 @@ pub struct Events {
     pub sixteen_rounds: u64,
     /// The schedule is empty.
     pub house_schedule: u64,
+    /// The plan has edges of all eight classes.
+    pub eight_classes: u64,
+    /// The call bars all classes.
+    pub all_barred: u64,
+    /// An edge is barred that a permitted walk from the start leads to.
+    pub barred_at_hand: u64,
+    /// A route was kept, and a barred edge would have made it cheaper: the
+    /// cheapest walk over all edges costs less than any permitted one.
+    pub barred_cheaper: u64,
+    /// There is no route, and with barred edges there would be one.
+    pub barred_only: u64,
 }
 
 impl Events {
@@ -115,6 +127,11 @@ impl Events {
             ("eight guides", self.eight_guides),
             ("sixteen rounds", self.sixteen_rounds),
             ("house schedule", self.house_schedule),
+            ("edges of eight classes", self.eight_classes),
+            ("all classes barred", self.all_barred),
+            ("barred edge at hand", self.barred_at_hand),
+            ("barred edge would be cheaper", self.barred_cheaper),
+            ("only barred edges lead on", self.barred_only),
         ]
     }
 
@@ -226,23 +243,44 @@ impl Events {
             self.log_full += u64::from(turns as usize > job.log_room);
         }
         if !matches!(answer, Answer::Refused { .. }) {
-            self.count_shape(job);
+            let plan = Plan::of_bytes(&job.bytes);
+            self.count_shape(job, &plan);
+            self.count_barred(job, &plan, answer);
         }
         answer
     }
 
+    /// Counts what the barred classes change.
+    fn count_barred(&mut self, job: &Job, plan: &Plan, answer: Answer) {
+        if job.barred == 0 {
+            return;
+        }
+        let permitted = dijkstra::distances_from(plan, job.start, job.barred);
+        let any = dijkstra::distances_from(plan, job.start, dijkstra::NO_BAR);
+        let at_hand = (0..plan.edges()).any(|edge| {
+            permitted[plan.tails[edge] as usize].is_some()
+                && !dijkstra::is_permitted(job.barred, plan.classes[edge])
+        });
+        let goal = job.goal as usize;
+        let (permitted, any) = (permitted[goal], any[goal]);
+        let route = matches!(answer, Answer::Route { .. });
+        self.all_barred += u64::from(job.barred == MOST_BARRED);
+        self.barred_at_hand += u64::from(at_hand);
+        self.barred_cheaper += u64::from(route && any < permitted);
+        let no_route = matches!(answer, Answer::NoRoute { .. });
+        self.barred_only += u64::from(no_route && any.is_some());
+    }
+
     /// Counts what the job is like.
-    fn count_shape(&mut self, job: &Job) {
-        let (mut zero_costs, mut self_edge) = (true, false);
-        let (_, edges) = reference::walk_plan(&job.bytes, |_, tail, head, cost| {
-            zero_costs &= cost == 0;
-            self_edge |= tail == head;
-        })
-        .expect("the plan is valid");
+    fn count_shape(&mut self, job: &Job, plan: &Plan) {
+        let zero_costs = plan.edges() > 0 && plan.costs.iter().all(|&cost| cost == 0);
+        let mut ends = plan.tails.iter().zip(&plan.heads);
+        let self_edge = ends.any(|(tail, head)| tail == head);
+        let eight_classes = (0..8).all(|class| plan.classes.contains(&class));
         let sheets = || job.guides.chunks_exact(job.anchor.len());
         let constant = |sheet: &[u32]| sheet.len() > 1 && sheet.iter().all(|&h| h == sheet[0]);
         self.start_is_goal += u64::from(job.start == job.goal);
-        self.zero_costs += u64::from(edges > 0 && zero_costs);
+        self.zero_costs += u64::from(zero_costs);
         self.self_edge += u64::from(self_edge);
         self.constant_sheet += u64::from(sheets().any(constant));
         self.greatest_number += u64::from(job.guides.contains(&u32::MAX));
@@ -251,5 +289,6 @@ impl Events {
         self.eight_guides += u64::from(job.guide_count == 8);
         self.sixteen_rounds += u64::from(job.schedule.len() == 32);
         self.house_schedule += u64::from(job.schedule.is_empty());
+        self.eight_classes += u64::from(eight_classes);
     }
 }

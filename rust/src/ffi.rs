@@ -40,6 +40,8 @@ extern "C" {
         heads_length: usize,
         costs: *mut u32,
         costs_length: usize,
+        classes: *mut u32,
+        classes_length: usize,
         figures: *mut u64,
     );
     fn secondcoop_write_plan(
@@ -50,6 +52,8 @@ extern "C" {
         heads_length: usize,
         costs: *const u32,
         costs_length: usize,
+        classes: *const u32,
+        classes_length: usize,
         out: *mut u8,
         out_length: usize,
         figures: *mut u64,
@@ -59,6 +63,7 @@ extern "C" {
         bytes_length: usize,
         start: u32,
         goal: u32,
+        barred: u32,
         anchor: *const u32,
         anchor_length: usize,
         guides: *const u32,
@@ -135,7 +140,13 @@ pub fn check_plan(bytes: &[u8]) -> Figures {
     figures_of(|figures| unsafe { secondcoop_check_plan(bytes.as_ptr(), bytes.len(), figures) })
 }
 
-pub fn read_plan(bytes: &[u8], tails: &mut [u32], heads: &mut [u32], costs: &mut [u32]) -> Figures {
+pub fn read_plan(
+    bytes: &[u8],
+    tails: &mut [u32],
+    heads: &mut [u32],
+    costs: &mut [u32],
+    classes: &mut [u32],
+) -> Figures {
     // SAFETY: as above, and the lists are lent mutably and are disjoint.
     figures_of(|figures| unsafe {
         secondcoop_read_plan(
@@ -147,6 +158,8 @@ pub fn read_plan(bytes: &[u8], tails: &mut [u32], heads: &mut [u32], costs: &mut
             heads.len(),
             costs.as_mut_ptr(),
             costs.len(),
+            classes.as_mut_ptr(),
+            classes.len(),
             figures,
         )
     })
@@ -157,6 +170,7 @@ pub fn write_plan(
     tails: &[u32],
     heads: &[u32],
     costs: &[u32],
+    classes: &[u32],
     out: &mut [u8],
 ) -> Figures {
     // SAFETY: as above, and `out` is lent mutably.
@@ -169,6 +183,8 @@ pub fn write_plan(
             heads.len(),
             costs.as_ptr(),
             costs.len(),
+            classes.as_ptr(),
+            classes.len(),
             out.as_mut_ptr(),
             out.len(),
             figures,
@@ -182,6 +198,7 @@ pub fn plan(request: &Request, memory: Memory) -> planner::Figures {
         bytes,
         start,
         goal,
+        barred,
         anchor,
         guides,
         guide_count,
@@ -196,6 +213,7 @@ pub fn plan(request: &Request, memory: Memory) -> planner::Figures {
             bytes.len(),
             start,
             goal,
+            barred,
             anchor.as_ptr(),
             anchor.len(),
             guides.as_ptr(),

@@ -7,10 +7,12 @@
 use crate::compare::Case;
 use crate::ffi::Figures;
 use crate::random::Random;
+use crate::reference;
 
 const MOST_VERTICES: u32 = 4_096;
 const MOST_EDGES: usize = 32_768;
 const MOST_COST: u32 = 1_000_000;
+const MOST_CLASS: u32 = 7;
 const MOST_NUMBER: u32 = 2_097_151;
 
 /// Where a stream's cases go, with the answer if their making decides it.
@@ -23,6 +25,16 @@ pub struct Plan {
     pub tails: Vec<u32>,
     pub heads: Vec<u32>,
     pub costs: Vec<u32>,
+    pub classes: Vec<u32>,
+}
+
+/// The classes of so many edges: mostly of few classes, so that a barred one
+/// is met, sometimes of all eight.
+pub fn random_classes(random: &mut Random, edges: usize) -> Vec<u32> {
+    let all: Vec<u32> = (0..=MOST_CLASS).collect();
+    let few: Vec<u32> = (0..random.range(1, 3)).map(|_| random.pick(&all)).collect();
+    let classes = if random.one_in(4) { all } else { few };
+    (0..edges).map(|_| random.pick(&classes)).collect()
 }
 
 /// A cost with all group counts and the limits likely.
@@ -72,6 +84,7 @@ pub fn random_plan(random: &mut Random, vertices: u32, edges: usize) -> Plan {
         tails: chosen.iter().map(|pair| (pair / n) as u32).collect(),
         heads: chosen.iter().map(|pair| (pair % n) as u32).collect(),
         costs: chosen.iter().map(|_| random_cost(random)).collect(),
+        classes: random_classes(random, edges),
     }
 }
 
@@ -91,6 +104,7 @@ pub enum Field {
     Tail,
     Head,
     Cost,
+    Class,
 }
 
 /// One plan number in its bytes.
@@ -142,6 +156,7 @@ impl Plan {
             push(Field::Tail, self.tails[edge] - last);
             push(Field::Head, self.heads[edge]);
             push(Field::Cost, self.costs[edge]);
+            push(Field::Class, self.classes[edge]);
             last = self.tails[edge];
         }
         (bytes, numbers)
@@ -151,12 +166,36 @@ impl Plan {
         self.encode().0
     }
 
+    /// The plan that lists have in valid bytes.
+    pub fn of_bytes(bytes: &[u8]) -> Plan {
+        let mut plan = Plan::without_edges(0);
+        let (vertices, _) = reference::walk_plan(bytes, |_, edge| {
+            plan.tails.push(edge.tail);
+            plan.heads.push(edge.head);
+            plan.costs.push(edge.cost);
+            plan.classes.push(edge.class);
+        })
+        .expect("the plan is valid");
+        Plan { vertices, ..plan }
+    }
+
+    pub fn without_edges(vertices: u32) -> Plan {
+        Plan {
+            vertices,
+            tails: Vec::new(),
+            heads: Vec::new(),
+            costs: Vec::new(),
+            classes: Vec::new(),
+        }
+    }
+
     fn write_case(&self, room: usize) -> Case {
         Case::WritePlan {
             vertices: self.vertices,
             tails: self.tails.clone(),
             heads: self.heads.clone(),
             costs: self.costs.clone(),
+            classes: self.classes.clone(),
             room,
         }
     }
@@ -243,7 +282,7 @@ pub fn damage(random: &mut Random, plan: &Plan) -> (Vec<u8>, Figures, Option<Fie
         }
         _ => {}
     }
-    let edge = index.wrapping_sub(2) / 3;
+    let edge = index.wrapping_sub(2) / 4;
     let (refusal, value) = match number.field {
         Field::Vertices if random.one_in(3) => (2, 0),
         Field::Vertices => (2, number_from(random, MOST_VERTICES + 1)),
@@ -261,6 +300,7 @@ pub fn damage(random: &mut Random, plan: &Plan) -> (Vec<u8>, Figures, Option<Fie
             }
         }
         Field::Cost => (5, number_from(random, MOST_COST + 1)),
+        Field::Class => (15, number_from(random, MOST_CLASS + 1)),
     };
     (with_value(bytes, value), [refusal, here, 0, 0], field)
 }
@@ -275,7 +315,7 @@ pub fn damage_lists(random: &mut Random, plan: &mut Plan) -> Figures {
             1 => u32::MAX - random.range32(0, 3),
             _ => random.range32(limit, u32::MAX),
         };
-        let number = match random.below(6) {
+        let number = match random.below(7) {
             0 => {
                 plan.tails[edge] = number_above(random, plan.vertices);
                 4
@@ -286,7 +326,15 @@ pub fn damage_lists(random: &mut Random, plan: &mut Plan) -> Figures {
             }
             2 => {
                 plan.costs[edge] = number_above(random, MOST_COST + 1);
+                // A class above 7 as well does not count.
+                if random.one_in(3) {
+                    plan.classes[edge] = number_above(random, MOST_CLASS + 1);
+                }
                 5
+            }
+            6 => {
+                plan.classes[edge] = number_above(random, MOST_CLASS + 1);
+                15
             }
             3 if edge > 0 && plan.tails[edge - 1] > 0 => {
                 // A falling tail.
@@ -427,18 +475,14 @@ fn plan_cases(random: &mut Random, plan: &Plan, sink: Sink) {
         },
         good,
     );
-    let longer = [
-        edges + random.index(9),
-        edges + random.index(9),
-        edges + random.index(9),
-    ];
-    for room in [[edges; 3], longer] {
+    let longer = [(); 4].map(|()| edges + random.index(9));
+    for room in [[edges; 4], longer] {
         let bytes = bytes.clone();
         sink(Case::ReadPlan { bytes, room }, good);
     }
     if edges > 0 {
         let mut room = longer;
-        let short = random.index(3);
+        let short = random.index(4);
         room[short] = if random.one_in(2) {
             edges - 1
         } else {
@@ -519,12 +563,9 @@ pub fn damaged_plans(
         seen(known[0], field);
         let edges = plan.edges();
         let room = match random.below(3) {
-            0 => [edges; 3],
-            1 => [edges + 5, edges + 1, edges + 3],
-            _ => {
-                let mut place = || random.index(edges + 2);
-                [place(), place(), place()]
-            }
+            0 => [edges; 4],
+            1 => [edges + 5, edges + 1, edges + 3, edges + 4],
+            _ => [(); 4].map(|()| random.index(edges + 2)),
         };
         sink(
             Case::CheckPlan {
@@ -549,15 +590,7 @@ pub fn truncations(seed: u64, count: usize, sink: Sink) {
                 .find(|number| number.offset + number.length > length)
                 .expect("a number ends past a cut");
             let known = refused(1, cut.offset);
-            let bytes = bytes[..length].to_vec();
-            let room = [plan.edges(); 3];
-            sink(
-                Case::CheckPlan {
-                    bytes: bytes.clone(),
-                },
-                known,
-            );
-            sink(Case::ReadPlan { bytes, room }, known);
+            read_refused(&plan, bytes[..length].to_vec(), known, sink);
         }
     }
 }
@@ -580,9 +613,9 @@ pub fn random_bytes(seed: u64, count: usize, sink: Sink) {
         if length >= 2 && random.one_in(2) {
             // An edge count that fits the length.
             bytes[0] = random.range(1, 6) as u8;
-            bytes[1] = ((length - 2) / 3) as u8;
+            bytes[1] = ((length - 2) / 4) as u8;
         }
-        let room = [random.index(6), random.index(6), random.index(6)];
+        let room = [(); 4].map(|()| random.index(6));
         sink(
             Case::CheckPlan {
                 bytes: bytes.clone(),
@@ -609,7 +642,7 @@ pub fn changed_bytes(seed: u64, count: usize, sink: Sink) {
                 _ => bytes.insert(at, bytes[at]),
             }
         }
-        let room = [plan.edges() + 2; 3];
+        let room = [plan.edges() + 2; 4];
         sink(
             Case::CheckPlan {
                 bytes: bytes.clone(),
@@ -643,8 +676,13 @@ pub fn damaged_lists(seed: u64, count: usize, sink: Sink) {
                 [2, 0, 0, 0]
             }
             1 => {
-                let list = random.index(3);
-                let lists = [&mut plan.tails, &mut plan.heads, &mut plan.costs];
+                let list = random.index(4);
+                let lists = [
+                    &mut plan.tails,
+                    &mut plan.heads,
+                    &mut plan.costs,
+                    &mut plan.classes,
+                ];
                 let list = lists.into_iter().nth(list).unwrap();
                 if list.is_empty() || random.one_in(2) {
                     list.push(random.of_any_size(32) as u32);
@@ -673,9 +711,46 @@ pub fn damaged_lists(seed: u64, count: usize, sink: Sink) {
             tails: (0..edges).map(|edge| (edge / 16) as u32).collect(),
             heads: (0..edges).map(|edge| (edge % 16) as u32).collect(),
             costs: vec![1; edges],
+            classes: vec![7; edges],
         };
         sink(plan.write_case(8 * edges), refused(3, 0));
     }
+}
+
+/// Plans whose class numbers are damaged one after another, at every edge:
+/// above 7, of bad form, and cut; in bytes and in lists.
+pub fn damaged_classes(seed: u64, count: usize, sink: Sink) {
+    let mut random = Random::new(seed);
+    for _ in 0..count {
+        let most_vertices = random.pick(&[2, 6, 300, MOST_VERTICES]);
+        let plan = any_plan(&mut random, most_vertices, 12);
+        let (bytes, numbers) = plan.encode();
+        let classes = numbers.iter().filter(|number| number.field == Field::Class);
+        for (edge, number) in classes.enumerate() {
+            let mut above = Vec::new();
+            let value = number_from(&mut random, MOST_CLASS + 1);
+            push_number(&mut above, value);
+            let bad = bad_form(&mut random, number.value);
+            let here = number.offset;
+            for (refusal, new) in [(15, above), (1, bad)] {
+                let mut bytes = bytes.clone();
+                bytes.splice(here..here + number.length, new);
+                read_refused(&plan, bytes, refused(refusal, here), sink);
+            }
+            read_refused(&plan, bytes[..here].to_vec(), refused(1, here), sink);
+            let mut lists = plan.clone();
+            lists.classes[edge] = value;
+            sink(lists.write_case(bytes.len() + 3), refused(15, edge));
+        }
+    }
+}
+
+/// A plan's damaged bytes, checked and read.
+fn read_refused(plan: &Plan, bytes: Vec<u8>, known: Option<Figures>, sink: Sink) {
+    let room = [plan.edges(); 4];
+    let whole = bytes.clone();
+    sink(Case::CheckPlan { bytes: whole }, known);
+    sink(Case::ReadPlan { bytes, room }, known);
 }
 
 /// Random short lists for the writer, often near a plan.
@@ -709,11 +784,18 @@ pub fn random_lists(seed: u64, count: usize, sink: Sink) {
                 }
             })
             .collect();
+        let mut classes = random_classes(&mut random, pairs.len());
+        for class in &mut classes {
+            if random.one_in(20) {
+                *class = MOST_CLASS + random.range32(0, 2);
+            }
+        }
         let case = Case::WritePlan {
             vertices,
             tails: pairs.iter().map(|pair| pair.0).collect(),
             heads: pairs.iter().map(|pair| pair.1).collect(),
             costs,
+            classes,
             room: random.index(60),
         };
         sink(case, None);

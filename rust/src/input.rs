@@ -88,8 +88,9 @@ fn is_plain(byte: u8) -> bool {
 /// Whether a text that begins with a line's word, after comments or not, and
 /// has control characters cannot be an accepted job. One without a byte from
 /// 0 to 8 has no guide count. One with the word at its beginning has a plan
-/// too short for its lanes, and white space of ASCII before it, as numbers 9
-/// to 13 or 32, only makes that worse or its tails no places.
+/// too short for its lanes: up to 122 bytes for 97 lanes at least; and with
+/// white space of ASCII before it, as numbers 9 to 13 or 32, up to 32 bytes
+/// for 9 lanes at least.
 fn is_no_job(lines: &str) -> bool {
     let begin = lines.trim_start_matches(|letter| matches!(letter, '\t'..='\r' | ' '));
     let at_once = begin.starts_with(|letter: char| letter.is_ascii_lowercase());

@@ -17,6 +17,7 @@ pub struct Job {
     pub bytes: Vec<u8>,
     pub start: u32,
     pub goal: u32,
+    pub barred: u32,
     pub anchor: Vec<u32>,
     pub guides: Vec<u32>,
     pub guide_count: u32,
@@ -28,7 +29,7 @@ pub struct Job {
 }
 
 impl Job {
-    /// A job on a valid plan with full room.
+    /// A job on a valid plan with full room that bars nothing.
     #[allow(clippy::too_many_arguments)]
     pub fn new(
         plan: &Plan,
@@ -45,6 +46,7 @@ impl Job {
             bytes: plan.bytes(),
             start,
             goal,
+            barred: 0,
             anchor,
             guides,
             guide_count,
@@ -62,6 +64,7 @@ impl Job {
             bytes: &self.bytes,
             start: self.start,
             goal: self.goal,
+            barred: self.barred,
             anchor: &self.anchor,
             guides: &self.guides,
             guide_count: self.guide_count,
@@ -90,7 +93,7 @@ impl Job {
         generate::push_number(&mut bytes, self.bytes.len() as u32);
         bytes.extend(&self.bytes);
         let rounds = self.schedule.len() as u32 / 2;
-        for number in [self.start, self.goal, self.budget, rounds] {
+        for number in [self.start, self.goal, self.barred, self.budget, rounds] {
             generate::push_number(&mut bytes, number);
         }
         for &factor in &self.schedule {
@@ -167,7 +170,7 @@ pub fn random_sheet(random: &mut Random, plan: &Plan, goal: u32, anchor: &[u32])
         1 => vec![most; vertices],
         2 => anchor.to_vec(),
         // Distances, and what is far comes first.
-        kind @ (3 | 4) => dijkstra::distances_to(plan, goal)
+        kind @ (3 | 4) => dijkstra::distances_to(plan, goal, dijkstra::NO_BAR)
             .into_iter()
             .map(|distance| {
                 let distance = distance.map_or(u32::MAX, |distance| distance as u32);
@@ -186,6 +189,24 @@ pub fn random_sheet(random: &mut Random, plan: &Plan, goal: u32, anchor: &[u32])
         }
         _ => (0..vertices).map(|_| random.range32(0, most)).collect(),
     }
+}
+
+/// A barred number: often none, else one class or several that the plan's
+/// edges have, all, or any.
+pub fn random_barred(random: &mut Random, plan: &Plan) -> u32 {
+    let mut barred = 0;
+    match random.below(8) {
+        4 | 5 if plan.edges() > 0 => barred = 1 << random.pick(&plan.classes),
+        6 if plan.edges() > 0 => {
+            for _ in 0..random.range(2, 4) {
+                barred |= 1 << random.pick(&plan.classes);
+            }
+        }
+        7 if random.one_in(2) => barred = planner::MOST_BARRED,
+        7 => barred = random.range32(0, planner::MOST_BARRED),
+        _ => {}
+    }
+    barred
 }
 
 /// How edges get their costs.
@@ -304,6 +325,7 @@ pub fn random_graph(random: &mut Random, shape: Shape) -> Plan {
         tails: pairs.iter().map(|pair| pair.0).collect(),
         heads: pairs.iter().map(|pair| pair.1).collect(),
         costs: pairs.iter().map(|_| cost(random, kind)).collect(),
+        classes: generate::random_classes(random, pairs.len()),
     }
 }
 
@@ -335,6 +357,7 @@ pub fn job_on(random: &mut Random, plan: &Plan) -> Job {
         schedule,
         u32::MAX,
     );
+    job.barred = random_barred(random, plan);
     match random.below(4) {
         0 => job.log_room = random.index(5),
         1 => job.log_room = 0,
@@ -384,6 +407,7 @@ fn renumbered(random: &mut Random, vertices: u32, edges: &[(u32, u32, u32)]) -> 
         tails: edges.keys().map(|pair| pair.0).collect(),
         heads: edges.keys().map(|pair| pair.1).collect(),
         costs: edges.values().copied().collect(),
+        classes: generate::random_classes(random, edges.len()),
     };
     (plan, numbers)
 }
@@ -430,7 +454,7 @@ pub fn twisted_job(random: &mut Random) -> (Plan, Job) {
     let rounds = random.range(1, 5) as usize;
     let most = random.pick(&[200, 400, 1_000]);
     let schedule = falling_factors(random, rounds, [most; 2]);
-    let job = Job::new(
+    let mut job = Job::new(
         &plan,
         start,
         goal,
@@ -440,6 +464,7 @@ pub fn twisted_job(random: &mut Random) -> (Plan, Job) {
         schedule,
         u32::MAX,
     );
+    job.barred = random_barred(random, &plan);
     (plan, job)
 }
 
@@ -514,7 +539,7 @@ pub fn detour_job(random: &mut Random) -> (Plan, Job) {
         ];
         schedule.extend(next);
     }
-    let job = Job::new(
+    let mut job = Job::new(
         &plan,
         start,
         goal,
@@ -524,6 +549,7 @@ pub fn detour_job(random: &mut Random) -> (Plan, Job) {
         schedule,
         u32::MAX,
     );
+    job.barred = random_barred(random, &plan);
     (plan, job)
 }
 
@@ -569,7 +595,7 @@ pub fn steep_job(random: &mut Random) -> (Plan, Job) {
         random.pick(&[100, 150, 400]),
     ];
     let schedule = falling_factors(random, rounds, most);
-    let job = Job::new(
+    let mut job = Job::new(
         &plan,
         start,
         goal,
@@ -579,6 +605,7 @@ pub fn steep_job(random: &mut Random) -> (Plan, Job) {
         schedule,
         u32::MAX,
     );
+    job.barred = random_barred(random, &plan);
     (plan, job)
 }
 
@@ -633,12 +660,20 @@ pub fn valid_jobs(seed: u64, count: usize, sink: &mut dyn FnMut(&Plan, &Job)) {
     }
 }
 
-/// Damages a valid job so that it gets refusal `number` (1 to 13); the
+/// The refusals that a call can give.
+pub const CALL_REFUSALS: [u32; 14] = [1, 2, 3, 4, 5, 6, 7, 15, 8, 9, 10, 11, 12, 13];
+
+/// Whether a refusal is one of the plan's, which count before the call's.
+fn is_of_plan(number: u32) -> bool {
+    number <= 7 || number == 15
+}
+
+/// Damages a valid job so that it gets one of the call's refusals; the
 /// position that its making decides. `None` if this job cannot be damaged so.
 pub fn damage_job(random: &mut Random, plan: &Plan, job: &mut Job, number: u32) -> Option<usize> {
     let vertices = plan.vertices;
     match number {
-        1..=7 => {
+        _ if is_of_plan(number) => {
             for _ in 0..200 {
                 let (bytes, figures, _) = generate::damage(random, plan);
                 if figures[0] == u64::from(number) {
@@ -649,15 +684,15 @@ pub fn damage_job(random: &mut Random, plan: &Plan, job: &mut Job, number: u32) 
             return None;
         }
         8 => {
-            let outside = if random.one_in(2) {
-                vertices
-            } else {
-                random.range32(vertices, u32::MAX)
+            let mut outside = |first: u32| match random.one_in(2) {
+                true => first,
+                false => random.range32(first, u32::MAX),
             };
-            if random.one_in(2) {
-                job.start = outside;
-            } else {
-                job.goal = outside;
+            let (place, barred) = (outside(vertices), outside(planner::MOST_BARRED + 1));
+            match random.below(3) {
+                0 => job.start = place,
+                1 => job.goal = place,
+                _ => job.barred = barred,
             }
         }
         9 => match random.below(6) {
@@ -742,12 +777,13 @@ pub fn damage_job(random: &mut Random, plan: &Plan, job: &mut Job, number: u32) 
 pub fn damaged_jobs(seed: u64, count: usize, sink: &mut dyn FnMut(&Job, Answer)) {
     let mut random = Random::new(seed);
     for index in 0..count {
-        let number = index as u32 % 13 + 1;
+        let number = CALL_REFUSALS[index % CALL_REFUSALS.len()];
         let shape = random.pick(&SHAPES);
         let (plan, mut job) = random_job(&mut random, shape);
         // A later fault is done first and must not count.
-        if number < 12 && random.one_in(3) {
-            let later = random.range32(number.max(7) + 1, 12);
+        let next = if is_of_plan(number) { 8 } else { number + 1 };
+        if next <= 12 && random.one_in(3) {
+            let later = random.range32(next, 12);
             damage_job(&mut random, &plan, &mut job, later);
         }
         let Some(position) = damage_job(&mut random, &plan, &mut job, number) else {
@@ -770,7 +806,10 @@ pub fn wild_jobs(seed: u64, count: usize, sink: &mut dyn FnMut(&Job)) {
             // need a goal and a table of V numbers.
             let whole = job.goal < plan.vertices && job.anchor.len() == plan.vertices as usize;
             let most = if whole { 13 } else { 11 };
-            let number = random.range32(8, most);
+            let number = match random.one_in(12) {
+                true => 15,
+                false => random.range32(8, most),
+            };
             damage_job(&mut random, &plan, &mut job, number);
         }
         if random.one_in(3) {
@@ -903,6 +942,7 @@ pub fn large_jobs(seed: u64, sink: &mut dyn FnMut(&Plan, &Job)) {
         tails: (0..4_095).collect(),
         heads: (1..4_096).collect(),
         costs: vec![1_000_000; 4_095],
+        classes: (0..4_095).map(|edge| edge % 8).collect(),
     };
     let to_goal: Vec<u32> = (0..4_096)
         .map(|vertex| (4_095 - vertex) * 1_000_000)
@@ -932,6 +972,7 @@ pub fn large_jobs(seed: u64, sink: &mut dyn FnMut(&Plan, &Job)) {
     bench.costs.fill_with(|| random.range32(0, 99));
     for _ in 0..3 {
         let mut job = job_on(&mut random, &bench);
+        job.barred = 1 << random.pick(&bench.classes);
         job.guide_count = 8;
         let sheets = (0..8).map(|_| random_sheet(&mut random, &bench, job.goal, &job.anchor));
         job.guides = sheets.collect::<Vec<_>>().concat();
@@ -951,7 +992,7 @@ pub fn large_jobs(seed: u64, sink: &mut dyn FnMut(&Plan, &Job)) {
     let mut most = connected(&mut random, 4_096);
     most.costs.fill_with(|| random.range32(0, 999));
     let mut job = job_on(&mut random, &most);
-    (job.start, job.goal) = (17, 4_000);
+    (job.start, job.goal, job.barred) = (17, 4_000, 0b10_0000);
     job.anchor = random_anchor(&mut random, &most, job.goal);
     job.guide_count = 8;
     let sheets = (0..8).map(|_| random_sheet(&mut random, &most, job.goal, &job.anchor));
@@ -972,10 +1013,9 @@ pub fn large_jobs(seed: u64, sink: &mut dyn FnMut(&Plan, &Job)) {
 /// every vertex to almost every other.
 fn connected(random: &mut Random, vertices: u32) -> Plan {
     let mut plan = Plan {
-        vertices,
-        tails: Vec::new(),
-        heads: Vec::new(),
         costs: vec![0; 8 * vertices as usize],
+        classes: (0..8 * vertices).map(|_| random.range32(0, 7)).collect(),
+        ..Plan::without_edges(vertices)
     };
     for tail in 0..plan.vertices {
         let mut heads: Vec<u32> = Vec::new();
@@ -1005,7 +1045,7 @@ pub fn bench_jobs(seed: u64, count: usize, sink: &mut dyn FnMut(&[u8], Option<St
         match turn % 5 {
             0 => sink(&damage_bench(&mut random, plan, &job), refused(14, 0)),
             1 => {
-                let number = random.pick(&[1, 2, 3, 4, 5, 6, 7, 8, 10, 12, 13]);
+                let number = random.pick(&[1, 2, 3, 4, 5, 6, 7, 15, 8, 10, 12, 13]);
                 let Some(position) = damage_job(&mut random, plan, &mut job, number) else {
                     return;
                 };
@@ -1023,12 +1063,12 @@ pub fn bench_jobs(seed: u64, count: usize, sink: &mut dyn FnMut(&[u8], Option<St
                     _ => {}
                 }
                 let mut bytes = job.bench_bytes();
-                if number <= 7 && tables == 2 {
+                if is_of_plan(number) && tables == 2 {
                     bytes.resize(bench_text::MOST_JOB_BYTES, 0);
                 }
-                match number {
-                    8.. if tables < 2 => sink(&bytes, refused(14, 0)),
-                    _ => sink(&bytes, refused(number, position)),
+                match is_of_plan(number) || tables >= 2 {
+                    true => sink(&bytes, refused(number, position)),
+                    false => sink(&bytes, refused(14, 0)),
                 }
             }
             2 => {

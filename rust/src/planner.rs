@@ -5,7 +5,9 @@
 //! The paper's places are vertices here, its lanes edges, its chains walks
 //! and its allowance the budget of turns.
 
-use crate::reference;
+use std::ops::Range;
+
+use crate::reference::{self, Edge, Refusal};
 
 /// The paper's 4,294,967,295: not reached, never expanded, no predecessor.
 pub const NONE: u32 = u32::MAX;
@@ -13,18 +15,23 @@ pub const NONE: u32 = u32::MAX;
 /// W1 and W2 of each round where the schedule is empty.
 pub const HOUSE_SCHEDULE: [u32; 12] = [500, 500, 300, 300, 200, 200, 150, 150, 120, 120, 100, 100];
 
+/// A barred number has a bit for each class and is from 0 to this.
+pub const MOST_BARRED: u32 = 255;
+
 /// The words of work memory that a call needs.
 pub fn work_words(vertices: usize, edges: usize) -> usize {
-    5 * vertices + 1 + 2 * edges
+    5 * vertices + 1 + 3 * edges
 }
 
-/// What one planner call is asked: the paper's job. The guide sheets stand
-/// one after another, the schedule has W1 and W2 of each round.
+/// What one planner call is asked: the paper's job. Bit k of `barred` bars
+/// the edges of class k. The guide sheets stand one after another, the
+/// schedule has W1 and W2 of each round.
 #[derive(Clone, Copy, Debug)]
 pub struct Request<'a> {
     pub bytes: &'a [u8],
     pub start: u32,
     pub goal: u32,
+    pub barred: u32,
     pub anchor: &'a [u32],
     pub guides: &'a [u32],
     pub guide_count: u32,
@@ -190,10 +197,20 @@ pub enum Fault {
     BoundOfCutRound,
     /// Each round's turns are counted anew against the budget.
     BudgetOfRound,
+    /// Barred edges are tried all the same.
+    BarredTried,
+    /// Barred edges are tried where the anchor fills the turn.
+    BarredByAnchor,
+    /// Bit k bars class k − 1.
+    NextClass,
+    /// The class is read where the cost stands.
+    ClassOfCost,
+    /// The anchor table's rule is tested on permitted edges alone.
+    RuleOfPermitted,
 }
 
 /// All faults.
-pub const FAULTS: [Fault; 21] = [
+pub const FAULTS: [Fault; 26] = [
     Fault::CostOfGoal,
     Fault::OpenAgain,
     Fault::Forgotten,
@@ -215,6 +232,11 @@ pub const FAULTS: [Fault; 21] = [
     Fault::NoBegin,
     Fault::BoundOfCutRound,
     Fault::BudgetOfRound,
+    Fault::BarredTried,
+    Fault::BarredByAnchor,
+    Fault::NextClass,
+    Fault::ClassOfCost,
+    Fault::RuleOfPermitted,
 ];
 
 /// Who looks on at a search: counts its events, or plants a fault.
@@ -281,14 +303,71 @@ struct Factors {
     w2: u64,
 }
 
-/// The search in hand; it works in the lent memory alone.
-struct Search<'a, O> {
+/// A plan in work memory, all its edges, barred or not.
+#[derive(Clone, Copy)]
+struct Graph<'a> {
     /// V + 1 numbers of first edges; the last is M.
     first: &'a [u32],
     heads: &'a [u32],
     costs: &'a [u32],
+    classes: &'a [u32],
+}
+
+impl<'a> Graph<'a> {
+    /// Loads a checked plan of V vertices and M edges into work memory: first
+    /// edges, heads, costs, classes; then the vertices stand there.
+    fn load(
+        bytes: &[u8],
+        (vertices, edges): (usize, usize),
+        work: &'a mut [u32],
+    ) -> (Graph<'a>, &'a mut [Vertex]) {
+        let (first, rest) = work.split_at_mut(vertices + 1);
+        let (heads, rest) = rest.split_at_mut(edges);
+        let (costs, rest) = rest.split_at_mut(edges);
+        let (classes, rest) = rest.split_at_mut(edges);
+        // The first edge of a vertex is numbered by the edges of smaller tail.
+        let mut known = 0;
+        for_each_edge(bytes, |number, edge| {
+            while known <= edge.tail as usize {
+                first[known] = number as u32;
+                known += 1;
+            }
+            heads[number] = edge.head;
+            costs[number] = edge.cost;
+            classes[number] = edge.class;
+        });
+        first[known..].fill(edges as u32);
+        let (state, _) = rest.as_chunks_mut();
+        let graph = Graph {
+            first,
+            heads,
+            costs,
+            classes,
+        };
+        (graph, state)
+    }
+
+    /// The numbers of a vertex's edges.
+    fn edges_of(&self, vertex: usize) -> Range<usize> {
+        self.first[vertex] as usize..self.first[vertex + 1] as usize
+    }
+
+    /// The cost of the one edge from tail to head.
+    fn cost_between(&self, tail: u32, head: u32) -> u32 {
+        let edge = self
+            .edges_of(tail as usize)
+            .find(|&edge| self.heads[edge] == head)
+            .expect("a predecessor has an edge to its vertex");
+        self.costs[edge]
+    }
+}
+
+/// The search in hand; it works in the lent memory alone.
+struct Search<'a, O> {
+    graph: Graph<'a>,
     vertices: &'a mut [Vertex],
     goal: usize,
+    barred: u32,
     anchor: &'a [u32],
     /// The guide sheets, one after another.
     guides: &'a [u32],
@@ -333,13 +412,32 @@ impl<O: Onlooker> Search<'_, O> {
         Some((least, lowest?))
     }
 
-    fn expand(&mut self, vertex: usize) {
+    /// Whether a turn of a table tries an edge.
+    fn permits(&self, cost: u32, class: u32, table: usize) -> bool {
+        let tried = self.onlooker.has(Fault::BarredTried)
+            || self.onlooker.has(Fault::BarredByAnchor) && table == 0;
+        let mut bit = class;
+        if self.onlooker.has(Fault::NextClass) {
+            bit += 1;
+        }
+        if self.onlooker.has(Fault::ClassOfCost) {
+            bit = cost.min(31);
+        }
+        tried || self.barred >> bit & 1 == 0
+    }
+
+    fn expand(&mut self, vertex: usize, table: usize) {
         let [g, expanded_at, _, marks] = &mut self.vertices[vertex];
         *expanded_at = *g;
         *marks &= !OPEN;
         let g = *g;
-        let edges = self.first[vertex] as usize..self.first[vertex + 1] as usize;
-        for (&head, &cost) in self.heads[edges.clone()].iter().zip(&self.costs[edges]) {
+        let (graph, edges) = (self.graph, self.graph.edges_of(vertex));
+        let ends = graph.heads[edges.clone()].iter();
+        let costs = graph.costs[edges.clone()].iter();
+        for ((&head, &cost), &class) in ends.zip(costs).zip(&graph.classes[edges]) {
+            if !self.permits(cost, class, table) {
+                continue;
+            }
             // No walk without a ring costs over 4,095,000,000: no overflow.
             let cost = g + cost;
             let [g, expanded_at, predecessor, marks] = &mut self.vertices[head as usize];
@@ -353,22 +451,12 @@ impl<O: Onlooker> Search<'_, O> {
         }
     }
 
-    /// The cost of the one edge from tail to head.
-    fn cost_between(&self, tail: u32, head: u32) -> u32 {
-        let edges = self.first[tail as usize] as usize..self.first[tail as usize + 1] as usize;
-        let edge = edges
-            .into_iter()
-            .find(|&edge| self.heads[edge] == head)
-            .expect("a predecessor has an edge to its vertex");
-        self.costs[edge]
-    }
-
     /// The true sum of the traced walk and its length in vertices.
     fn trace(&self) -> (u32, u32) {
         let (mut cost, mut length) = (0, 1);
         let mut head = self.goal as u32;
         for tail in traced(self.vertices, self.goal).skip(1) {
-            cost += self.cost_between(tail, head);
+            cost += self.graph.cost_between(tail, head);
             length += 1;
             assert!(length as usize <= self.vertices.len(), "a ring is traced");
             head = tail;
@@ -489,7 +577,7 @@ impl<O: Onlooker> Search<'_, O> {
                 no_line,
             });
             self.note_turn(table, vertex);
-            self.expand(vertex);
+            self.expand(vertex, table);
             if table > 0 || !self.onlooker.has(Fault::GuideStays) {
                 guide = if guide >= self.guide_count {
                     1
@@ -590,96 +678,16 @@ pub fn plan_observed(
 }
 
 fn plan_with<O: Onlooker>(request: &Request, memory: Memory, onlooker: O) -> Answer {
-    let &Request {
-        bytes,
-        start,
-        goal,
-        anchor,
-        guides,
-        guide_count,
-        schedule,
-        budget,
-    } = request;
-    let Memory { route, log, work } = memory;
-    let refused = |number, position| Answer::Refused { number, position };
-    let (vertices, edges) = match reference::check_plan(bytes) {
-        Ok((vertices, edges)) => (vertices as usize, edges as usize),
-        Err(refusal) => return refused(refusal.number, refusal.position),
+    let room = (memory.route.len(), memory.work.len());
+    let (vertices, edges) = match admitted(request, room, &onlooker) {
+        Ok(counts) => counts,
+        Err(Refusal { number, position }) => return Answer::Refused { number, position },
     };
-    if start as usize >= vertices || goal as usize >= vertices {
-        return refused(8, 0);
-    }
-    if guide_count > 8
-        || anchor.len() != vertices
-        || guides.len() != guide_count as usize * vertices
-    {
-        return refused(9, 0);
-    }
-    if bad_schedule(schedule) {
-        return refused(10, 0);
-    }
-    let needed = work_words(vertices, edges);
-    if route.len() < vertices || work.len() < needed {
-        return refused(11, 0);
-    }
-    if anchor[goal as usize] != 0 {
-        return refused(12, 0);
-    }
-    let mut broken = None;
-    for_each_edge(bytes, |edge, tail, head, cost| {
-        let (tail, head) = (anchor[tail as usize], anchor[head as usize]);
-        if broken.is_none() && u64::from(tail) > u64::from(cost) + u64::from(head) {
-            broken = Some(edge);
-        }
-    });
-    if let Some(edge) = broken {
-        return refused(13, edge);
-    }
-
-    // Work memory: first edges, heads, costs, then four words a vertex.
-    let (first, rest) = work[..needed].split_at_mut(vertices + 1);
-    let (heads, rest) = rest.split_at_mut(edges);
-    let (costs, rest) = rest.split_at_mut(edges);
-    let (state, _) = rest.as_chunks_mut();
-    // The first edge of a vertex is numbered by the edges of smaller tail.
-    let mut known = 0;
-    for_each_edge(bytes, |edge, tail, head, cost| {
-        while known <= tail as usize {
-            first[known] = edge as u32;
-            known += 1;
-        }
-        heads[edge] = head;
-        costs[edge] = cost;
-    });
-    first[known..].fill(edges as u32);
-    state.fill(NOT_REACHED);
-    state[start as usize] = [0, NONE, NONE, OPEN];
-
-    let schedule = if schedule.is_empty() {
-        &HOUSE_SCHEDULE
-    } else {
-        schedule
+    let schedule = match request.schedule {
+        [] => &HOUSE_SCHEDULE,
+        schedule => schedule,
     };
-    let mut search = Search {
-        first,
-        heads,
-        costs,
-        vertices: state,
-        goal: goal as usize,
-        anchor,
-        guides,
-        guide_count: guide_count as usize,
-        budget,
-        route: &mut route[..vertices],
-        log,
-        turns: 0,
-        rounds: 0,
-        bound: 0,
-        kept: None,
-        turns_before: 0,
-        next_guide: 1,
-        onlooker,
-    };
+    let mut search = loaded(request, memory, (vertices, edges), onlooker);
     let end = search.run(schedule);
     let turns = search.turns;
     match end {
@@ -698,7 +706,92 @@ fn plan_with<O: Onlooker>(request: &Request, memory: Memory, onlooker: O) -> Ans
     }
 }
 
+/// V and M of a call that no row of the paper's table refuses; the room is
+/// that of route and work memory.
+fn admitted(
+    request: &Request,
+    (route, work): (usize, usize),
+    onlooker: &impl Onlooker,
+) -> Result<(usize, usize), Refusal> {
+    let refused = |number, position| Err(Refusal { number, position });
+    let (vertices, edges) = reference::check_plan(request.bytes)?;
+    let ends = [request.start, request.goal];
+    if ends.iter().any(|&end| end >= vertices) || request.barred > MOST_BARRED {
+        return refused(8, 0);
+    }
+    let (vertices, edges) = (vertices as usize, edges as usize);
+    let guides = request.guide_count;
+    if guides > 8
+        || request.anchor.len() != vertices
+        || request.guides.len() != guides as usize * vertices
+    {
+        return refused(9, 0);
+    }
+    if bad_schedule(request.schedule) {
+        return refused(10, 0);
+    }
+    if route < vertices || work < work_words(vertices, edges) {
+        return refused(11, 0);
+    }
+    if request.anchor[request.goal as usize] != 0 {
+        return refused(12, 0);
+    }
+    match first_broken(request, onlooker) {
+        Some(edge) => refused(13, edge),
+        None => Ok((vertices, edges)),
+    }
+}
+
+/// The first edge, barred or not, on which the anchor table breaks its rule.
+fn first_broken(request: &Request, onlooker: &impl Onlooker) -> Option<usize> {
+    let mut broken = None;
+    for_each_edge(request.bytes, |number, edge| {
+        let ends = [edge.tail, edge.head].map(|end| request.anchor[end as usize]);
+        let [tail, head] = ends.map(u64::from);
+        let barred = request.barred >> edge.class & 1 == 1;
+        let left_out = barred && onlooker.has(Fault::RuleOfPermitted);
+        if broken.is_none() && tail > u64::from(edge.cost) + head && !left_out {
+            broken = Some(number);
+        }
+    });
+    broken
+}
+
+/// The search of an admitted call with V vertices and M edges, at its
+/// beginning.
+fn loaded<'a, O: Onlooker>(
+    request: &Request<'a>,
+    memory: Memory<'a>,
+    counts: (usize, usize),
+    onlooker: O,
+) -> Search<'a, O> {
+    let (vertices, edges) = counts;
+    let work = &mut memory.work[..work_words(vertices, edges)];
+    let (graph, state) = Graph::load(request.bytes, counts, work);
+    state.fill(NOT_REACHED);
+    state[request.start as usize] = [0, NONE, NONE, OPEN];
+    Search {
+        graph,
+        vertices: state,
+        goal: request.goal as usize,
+        barred: request.barred,
+        anchor: request.anchor,
+        guides: request.guides,
+        guide_count: request.guide_count as usize,
+        budget: request.budget,
+        route: &mut memory.route[..vertices],
+        log: memory.log,
+        turns: 0,
+        rounds: 0,
+        bound: 0,
+        kept: None,
+        turns_before: 0,
+        next_guide: 1,
+        onlooker,
+    }
+}
+
 /// Hands each edge of a checked plan to `take`.
-fn for_each_edge(bytes: &[u8], take: impl FnMut(usize, u32, u32, u32)) {
+fn for_each_edge(bytes: &[u8], take: impl FnMut(usize, Edge)) {
     reference::walk_plan(bytes, take).expect("the plan is checked");
 }

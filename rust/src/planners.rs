@@ -7,6 +7,7 @@ use crate::ffi;
 use crate::guarded::Guarded;
 use crate::jobs::Job;
 use crate::planner::{self, Answer, Fault, Figures, Memory, Request};
+use crate::reference::LAST_REFUSAL;
 
 /// The planner call and the bench program's text.
 pub trait Planner {
@@ -150,12 +151,17 @@ pub fn run_text(planner: &dyn Planner, bytes: &[u8], room: usize, salt: u64) -> 
     }
 }
 
-/// How many kinds of ending there are.
-pub const KINDS: usize = 17;
-/// The kinds that are not a refusal; a refusal's kind is its number.
+/// The kinds of ending that are not a refusal; a refusal's kind is its number.
 pub const ROUTE: usize = 0;
-pub const NO_ROUTE: usize = 15;
-pub const UNFINISHED: usize = 16;
+pub const NO_ROUTE: usize = LAST_REFUSAL as usize + 1;
+pub const UNFINISHED: usize = NO_ROUTE + 1;
+/// How many kinds of ending there are.
+pub const KINDS: usize = UNFINISHED + 1;
+
+/// Whether a kind of ending is a refusal.
+pub fn is_refusal(kind: usize) -> bool {
+    (1..NO_ROUTE).contains(&kind)
+}
 
 /// The kind of ending that figures tell.
 pub fn kind_of(figures: &Figures) -> usize {

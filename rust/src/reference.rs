@@ -3,7 +3,8 @@
 //! Numbers stand in groups of seven bits, lowest group first; a byte's top
 //! bit is set when another group follows, and the last group is not zero
 //! unless it is the only one. A plan is V, M and then for each edge the
-//! difference of its tail to the tail before, its head and its cost.
+//! difference of its tail to the tail before, its head, its cost and its
+//! class.
 
 /// V is from 1 to this.
 pub const MOST_VERTICES: u32 = 4_096;
@@ -11,8 +12,13 @@ pub const MOST_VERTICES: u32 = 4_096;
 pub const MOST_EDGES: u32 = 32_768;
 /// A cost is from 0 to this.
 pub const MOST_COST: u32 = 1_000_000;
+/// A class is from 0 to this.
+pub const MOST_CLASS: u32 = 7;
 /// The largest number that three groups hold.
 pub const MOST_IN_THREE_GROUPS: u32 = (1 << 21) - 1;
+
+/// Refusals are numbered from 1 to this.
+pub const LAST_REFUSAL: u32 = 15;
 
 /// A refusal: its number and its position.
 #[derive(Clone, Copy, Debug, PartialEq, Eq, Hash)]
@@ -93,48 +99,80 @@ pub fn write_plan_number(out: &mut [u8], at: usize, value: u32) -> Result<usize,
     Ok(at + length)
 }
 
-/// Goes through a plan's bytes and hands each edge (number, tail, head, cost)
-/// to `take`; gives V and M.
+/// One edge of a plan.
+#[derive(Clone, Copy, Debug, PartialEq, Eq)]
+pub struct Edge {
+    pub tail: u32,
+    pub head: u32,
+    pub cost: u32,
+    pub class: u32,
+}
+
+/// Reads V and M; gives the offset after them too.
 #[inline]
-pub fn walk_plan(
-    bytes: &[u8],
-    mut take: impl FnMut(usize, u32, u32, u32),
-) -> Result<(u32, u32), Refusal> {
+fn read_counts(bytes: &[u8]) -> Result<(u32, u32, usize), Refusal> {
     let (vertices, edges_at) = read_plan_number(bytes, 0)?;
     if vertices == 0 || vertices > MOST_VERTICES {
         return refuse(2, 0);
     }
-    let (edges, mut at) = read_plan_number(bytes, edges_at)?;
+    let (edges, at) = read_plan_number(bytes, edges_at)?;
     if edges > MOST_EDGES {
         return refuse(3, edges_at);
     }
-    let mut tail = 0;
-    // The least head allowed under the tail in hand.
-    let mut least = 0;
-    for edge in 0..edges as usize {
-        let (difference, head_at) = read_plan_number(bytes, at)?;
-        // At most 4,095 + 2,097,151: no overflow.
-        tail += difference;
-        if tail >= vertices {
-            return refuse(4, at);
-        }
-        if difference > 0 {
-            least = 0;
-        }
-        let (head, cost_at) = read_plan_number(bytes, head_at)?;
-        if head >= vertices {
-            return refuse(4, head_at);
-        }
-        if head < least {
-            return refuse(6, head_at);
-        }
-        least = head + 1;
-        let (cost, next) = read_plan_number(bytes, cost_at)?;
-        if cost > MOST_COST {
-            return refuse(5, cost_at);
-        }
+    Ok((vertices, edges, at))
+}
+
+/// Reads the edge at an offset and gives the offset after it. The tail before
+/// it is a vertex, and `least` is the least head that it allows.
+#[inline]
+fn read_edge(
+    bytes: &[u8],
+    at: usize,
+    vertices: u32,
+    (tail_before, least): (u32, u32),
+) -> Result<(Edge, usize), Refusal> {
+    let (difference, head_at) = read_plan_number(bytes, at)?;
+    // At most 4,095 + 2,097,151: no overflow.
+    let tail = tail_before + difference;
+    if tail >= vertices {
+        return refuse(4, at);
+    }
+    let (head, cost_at) = read_plan_number(bytes, head_at)?;
+    if head >= vertices {
+        return refuse(4, head_at);
+    }
+    if difference == 0 && head < least {
+        return refuse(6, head_at);
+    }
+    let (cost, class_at) = read_plan_number(bytes, cost_at)?;
+    if cost > MOST_COST {
+        return refuse(5, cost_at);
+    }
+    let (class, next) = read_plan_number(bytes, class_at)?;
+    if class > MOST_CLASS {
+        return refuse(15, class_at);
+    }
+    let edge = Edge {
+        tail,
+        head,
+        cost,
+        class,
+    };
+    Ok((edge, next))
+}
+
+/// Goes through a plan's bytes and hands each edge with its number to `take`;
+/// gives V and M.
+#[inline]
+pub fn walk_plan(bytes: &[u8], mut take: impl FnMut(usize, Edge)) -> Result<(u32, u32), Refusal> {
+    let (vertices, edges, mut at) = read_counts(bytes)?;
+    // The tail in hand and the least head allowed under it.
+    let mut last = (0, 0);
+    for number in 0..edges as usize {
+        let (edge, next) = read_edge(bytes, at, vertices, last)?;
+        last = (edge.tail, edge.head + 1);
         at = next;
-        take(edge, tail, head, cost);
+        take(number, edge);
     }
     if at < bytes.len() {
         return refuse(7, at);
@@ -144,76 +182,120 @@ pub fn walk_plan(
 
 /// Checks a plan's bytes: V and M, or the first fault.
 pub fn check_plan(bytes: &[u8]) -> Result<(u32, u32), Refusal> {
-    walk_plan(bytes, |_, _, _, _| ())
+    walk_plan(bytes, |_, _| ())
 }
 
-/// Reads a plan into three lists, which may be longer than M.
+/// Reads a plan into four lists, which may be longer than M.
 pub fn read_plan(
     bytes: &[u8],
     tails: &mut [u32],
     heads: &mut [u32],
     costs: &mut [u32],
+    classes: &mut [u32],
 ) -> Result<(u32, u32), Refusal> {
     let (_, edges) = check_plan(bytes)?;
     let edges = edges as usize;
-    let (Some(tails), Some(heads), Some(costs)) = (
+    let (Some(tails), Some(heads), Some(costs), Some(classes)) = (
         tails.get_mut(..edges),
         heads.get_mut(..edges),
         costs.get_mut(..edges),
+        classes.get_mut(..edges),
     ) else {
         return refuse(11, 0);
     };
-    walk_plan(bytes, |edge, tail, head, cost| {
-        tails[edge] = tail;
-        heads[edge] = head;
-        costs[edge] = cost;
+    walk_plan(bytes, |number, edge| {
+        tails[number] = edge.tail;
+        heads[number] = edge.head;
+        costs[number] = edge.cost;
+        classes[number] = edge.class;
     })
 }
 
-/// Writes a plan from V and three equal lists; gives the count of bytes.
+/// The edges of four equal lists.
+#[inline]
+fn listed<'a>(
+    tails: &'a [u32],
+    heads: &'a [u32],
+    costs: &'a [u32],
+    classes: &'a [u32],
+) -> impl Iterator<Item = Edge> + 'a {
+    let pairs = tails.iter().zip(heads).zip(costs).zip(classes);
+    pairs.map(|(((&tail, &head), &cost), &class)| Edge {
+        tail,
+        head,
+        cost,
+        class,
+    })
+}
+
+/// The bytes that edges take after V and M, or the first fault.
+#[inline]
+fn edges_length(vertices: u32, edges: impl Iterator<Item = Edge>) -> Result<usize, Refusal> {
+    let length = |value| plan_number_length(value).expect("a checked number fits three groups");
+    let mut needed = 0;
+    // The edge before, as tail and head.
+    let mut last: Option<(u32, u32)> = None;
+    for (number, edge) in edges.enumerate() {
+        let Edge {
+            tail,
+            head,
+            cost,
+            class,
+        } = edge;
+        if tail >= vertices || head >= vertices {
+            return refuse(4, number);
+        }
+        if last.is_some_and(|last| (tail, head) <= last) {
+            return refuse(6, number);
+        }
+        if cost > MOST_COST {
+            return refuse(5, number);
+        }
+        if class > MOST_CLASS {
+            return refuse(15, number);
+        }
+        let difference = tail - last.map_or(0, |(tail, _)| tail);
+        needed += length(difference) + length(head) + length(cost) + length(class);
+        last = Some((tail, head));
+    }
+    Ok(needed)
+}
+
+/// Writes a plan from V and four equal lists; gives the count of bytes.
 pub fn write_plan(
     vertices: u32,
     tails: &[u32],
     heads: &[u32],
     costs: &[u32],
+    classes: &[u32],
     out: &mut [u8],
 ) -> Result<usize, Refusal> {
     if vertices == 0 || vertices > MOST_VERTICES {
         return refuse(2, 0);
     }
     let edges = tails.len();
-    if edges > MOST_EDGES as usize || heads.len() != edges || costs.len() != edges {
+    let unequal = [heads, costs, classes]
+        .iter()
+        .any(|list| list.len() != edges);
+    if edges > MOST_EDGES as usize || unequal {
         return refuse(3, 0);
     }
-    let length = |value| plan_number_length(value).expect("a checked number fits three groups");
-    let mut needed = length(vertices) + length(edges as u32);
-    // The edge before, as tail and head.
-    let mut last: Option<(u32, u32)> = None;
-    for (edge, ((&tail, &head), &cost)) in tails.iter().zip(heads).zip(costs).enumerate() {
-        if tail >= vertices || head >= vertices {
-            return refuse(4, edge);
-        }
-        if last.is_some_and(|last| (tail, head) <= last) {
-            return refuse(6, edge);
-        }
-        if cost > MOST_COST {
-            return refuse(5, edge);
-        }
-        let difference = tail - last.map_or(0, |(tail, _)| tail);
-        needed += length(difference) + length(head) + length(cost);
-        last = Some((tail, head));
-    }
+    let counts = [vertices, edges as u32];
+    let needed: usize = counts.into_iter().filter_map(plan_number_length).sum();
+    let needed = needed + edges_length(vertices, listed(tails, heads, costs, classes))?;
     let Some(out) = out.get_mut(..needed) else {
         return refuse(11, 0);
     };
-    let mut at = write_plan_number(out, 0, vertices)?;
-    at = write_plan_number(out, at, edges as u32)?;
+    let mut at = 0;
+    for count in counts {
+        at = write_plan_number(out, at, count)?;
+    }
     let mut previous = 0;
-    for ((&tail, &head), &cost) in tails.iter().zip(heads).zip(costs) {
-        at = write_plan_number(out, at, tail - previous)?;
-        at = write_plan_number(out, at, head)?;
-        at = write_plan_number(out, at, cost)?;
-        previous = tail;
+    for edge in listed(tails, heads, costs, classes) {
+        for value in [edge.tail - previous, edge.head, edge.cost, edge.class] {
+            at = write_plan_number(out, at, value)?;
+        }
+        previous = edge.tail;
     }
     Ok(at)
 }
@@ -223,7 +305,7 @@ mod tests {
     use super::*;
 
     /// Plan A of the paper.
-    const PLAN_A: [u8; 14] = [4, 4, 0, 1, 1, 0, 2, 4, 1, 2, 2, 1, 3, 3];
+    const PLAN_A: [u8; 18] = [4, 4, 0, 1, 1, 0, 0, 2, 4, 0, 1, 2, 2, 0, 1, 3, 3, 0];
 
     fn at<T>(number: u32, position: usize) -> Result<T, Refusal> {
         Err(Refusal { number, position })
@@ -231,17 +313,20 @@ mod tests {
 
     #[test]
     fn plan_a_is_read_and_written_back() {
-        let (mut tails, mut heads, mut costs) = ([9; 5], [9; 5], [9; 5]);
-        let answer = read_plan(&PLAN_A, &mut tails, &mut heads, &mut costs);
+        let mut lists = [[9; 5]; 4];
+        let [tails, heads, costs, classes] = &mut lists;
+        let answer = read_plan(&PLAN_A, tails, heads, costs, classes);
         assert_eq!(answer, Ok((4, 4)));
-        assert_eq!(tails, [0, 0, 1, 2, 9]);
-        assert_eq!(heads, [1, 2, 2, 3, 9]);
-        assert_eq!(costs, [1, 4, 2, 3, 9]);
-        let mut out = [0xEE; 16];
-        let answer = write_plan(4, &tails[..4], &heads[..4], &costs[..4], &mut out);
-        assert_eq!(answer, Ok(14));
-        assert_eq!(out[..14], PLAN_A);
-        assert_eq!(out[14..], [0xEE, 0xEE]);
+        assert_eq!(*tails, [0, 0, 1, 2, 9]);
+        assert_eq!(*heads, [1, 2, 2, 3, 9]);
+        assert_eq!(*costs, [1, 4, 2, 3, 9]);
+        assert_eq!(*classes, [0, 0, 0, 0, 9]);
+        let mut out = [0xEE; 20];
+        let [tails, heads, costs, classes] = lists.each_ref().map(|list| &list[..4]);
+        let answer = write_plan(4, tails, heads, costs, classes, &mut out);
+        assert_eq!(answer, Ok(18));
+        assert_eq!(out[..18], PLAN_A);
+        assert_eq!(out[18..], [0xEE, 0xEE]);
     }
 
     #[test]
@@ -253,12 +338,14 @@ mod tests {
         assert_eq!(check_plan(&[0x81, 0x20, 0]), at(2, 0));
         assert_eq!(check_plan(&[0x80, 0x20, 0]), Ok((4_096, 0)));
         assert_eq!(check_plan(&[1, 0x81, 0x80, 2]), at(3, 1));
-        assert_eq!(check_plan(&[2, 1, 2, 0, 0]), at(4, 2));
-        assert_eq!(check_plan(&[2, 1, 1, 2, 0]), at(4, 3));
-        assert_eq!(check_plan(&[2, 2, 1, 1, 0, 0, 1, 0]), at(6, 6));
-        assert_eq!(check_plan(&[2, 1, 1, 1, 0xC1, 0x84, 0x3D]), at(5, 4));
-        assert_eq!(check_plan(&[2, 1, 1, 1, 0xC0, 0x84, 0x3D]), Ok((2, 1)));
-        assert_eq!(check_plan(&[2, 1, 1, 1, 0, 0]), at(7, 5));
+        assert_eq!(check_plan(&[2, 1, 2, 0, 0, 0]), at(4, 2));
+        assert_eq!(check_plan(&[2, 1, 1, 2, 0, 0]), at(4, 3));
+        assert_eq!(check_plan(&[2, 2, 1, 1, 0, 0, 0, 1, 0, 0]), at(6, 7));
+        assert_eq!(check_plan(&[2, 1, 1, 1, 0xC1, 0x84, 0x3D, 8]), at(5, 4));
+        assert_eq!(check_plan(&[2, 1, 1, 1, 0xC0, 0x84, 0x3D, 8]), at(15, 7));
+        assert_eq!(check_plan(&[2, 1, 1, 1, 0xC0, 0x84, 0x3D, 7]), Ok((2, 1)));
+        assert_eq!(check_plan(&[2, 1, 1, 1, 0, 0x87, 0]), at(1, 5));
+        assert_eq!(check_plan(&[2, 1, 1, 1, 0, 0, 0]), at(7, 6));
     }
 
     #[test]

@@ -4,9 +4,12 @@
 use std::fmt;
 
 use crate::bench_text::{MOST_BENCH_EDGES, MOST_BENCH_VERTICES, MOST_JOB_BYTES};
-use crate::reference::{self, MOST_COST, MOST_EDGES};
+use crate::planner::MOST_BARRED;
+use crate::reference::{self, MOST_CLASS, MOST_COST, MOST_EDGES};
 use crate::text::{JobLines, Line, PlanLines, TextJob, TextPlan, TextTables};
-use crate::words::{count, not_a_place, too_dear, too_many_lanes, wrong_place_count};
+use crate::words::{
+    count, no_barred_number, no_class, not_a_place, too_dear, too_many_lanes, wrong_place_count,
+};
 
 /// A refusal in words.
 pub fn refusal_words(number: u32) -> Option<&'static str> {
@@ -18,7 +21,7 @@ pub fn refusal_words(number: u32) -> Option<&'static str> {
         5 => "a cost is above 1000000",
         6 => "the lanes do not rise by tail, and under one tail by head",
         7 => "bytes are left over after the last lane",
-        8 => "start or goal is not a place",
+        8 => "start or goal is not a place, or the barred number is above 255",
         9 => "there are over 8 guides, or a table has not one number for each place",
         10 => {
             "the schedule has over 16 rounds, half a round, a factor outside 100 to 10000 or a \
@@ -34,6 +37,7 @@ pub fn refusal_words(number: u32) -> Option<&'static str> {
             "the job is not one for the bench program: over 32768 bytes, 16 rounds, 8 guides, \
              256 places or 2048 lanes, or a number is missing, of bad form or left over"
         }
+        15 => "a class is above 7",
         _ => return None,
     })
 }
@@ -53,7 +57,7 @@ pub fn position_words(number: u32) -> &'static str {
             "the position is a byte of the plan, counted from 0; where a plan was to be written, \
              it is always 0, and lists of unequal lengths are refused so too"
         }
-        4..=6 => {
+        4..=6 | 15 => {
             "the position is a byte of the plan, counted from 0; where a plan was to be written, \
              it is a lane, counted from 0"
         }
@@ -211,15 +215,15 @@ impl Remarks {
             let line = plan.lanes[MOST_EDGES as usize].number;
             self.add(line, 3, too_many_lanes(plan.lanes.len()));
         }
-        let mut before: Option<[u32; 3]> = None;
+        let mut before: Option<[u32; 4]> = None;
         for lane in &plan.lanes {
-            let [tail, head, cost] = lane.says;
+            let [tail, head, cost, class] = lane.says;
             for (end, place) in [("tail", tail), ("head", head)] {
                 if plan.has_places() && place >= places {
                     self.add(lane.number, 4, not_a_place(end, place, places));
                 }
             }
-            if let Some([_, last, _]) = before.filter(|before| before[0] == tail) {
+            if let Some([_, last, ..]) = before.filter(|before| before[0] == tail) {
                 if head <= last {
                     let words = format!(
                         "head {head} is not above head {last} of the lane before; heads rise \
@@ -230,6 +234,9 @@ impl Remarks {
             }
             if cost > MOST_COST {
                 self.add(lane.number, 5, too_dear(cost));
+            }
+            if class > MOST_CLASS {
+                self.add(lane.number, 15, no_class(class));
             }
             before = Some(lane.says);
         }
@@ -297,12 +304,17 @@ impl Remarks {
         self.add(line, refusal, words);
     }
 
+    /// Start, goal and the barred number.
     fn ends(&mut self, job: &JobLines, plan: &PlanLines) {
         let places = plan.places.says;
         for (name, line) in [("start", &job.start), ("goal", &job.goal)] {
             if plan.has_places() && line.says >= places {
                 self.add(line.number, 8, not_a_place(name, line.says, places));
             }
+        }
+        let Line { number, says } = job.barred;
+        if says > MOST_BARRED {
+            self.add(number, 8, no_barred_number(says));
         }
     }
 
@@ -345,7 +357,7 @@ impl Remarks {
             self.add(job.tables.line(), 12, words);
         }
         for (index, lane) in plan.lanes.iter().enumerate() {
-            let [tail, head, cost] = lane.says;
+            let [tail, head, cost, _] = lane.says;
             let (Some(at_tail), Some(at_head)) = (number_at(tail), number_at(head)) else {
                 continue;
             };

@@ -47,6 +47,7 @@ pub fn call(planner: &dyn Planner, job: &TextJob) -> String {
         bytes: &lines.plan.bytes().expect("a job's plan has bytes"),
         start: lines.start.says,
         goal: lines.goal.says,
+        barred: lines.barred.says,
         anchor,
         guides,
         guide_count: lines.tables.guide_count().says as u32,

@@ -1,10 +1,12 @@
 //! A readable text form of plans and jobs, in the paper's words, and their
 //! bytes.
 //!
-//! A line is `places V`, `lane TAIL HEAD COST`, `start PLACE`, `goal PLACE`,
-//! `allowance TURNS`, `round W1 W2`, `anchor NUMBER ...` or
-//! `guide NUMBER ...`; `#` begins a comment. Lanes, rounds and guides stand
-//! in their order, otherwise lines stand anywhere.
+//! A line is `places V`, `lane TAIL HEAD COST CLASS`, `start PLACE`,
+//! `goal PLACE`, `barred NUMBER`, `allowance TURNS`, `round W1 W2`,
+//! `anchor NUMBER ...` or `guide NUMBER ...`; `#` begins a comment. Lanes,
+//! rounds and guides stand in their order, otherwise lines stand anywhere. A
+//! class that is left out is 0, and so is a barred number: texts from before
+//! there were classes say what they said.
 //!
 //! Bytes that these lines cannot say stand as hexadecimal pairs: `plan` in
 //! place of places and lanes, `tables` with `guides COUNT` in place of the
@@ -17,15 +19,16 @@ use std::iter;
 use crate::generate::push_number;
 use crate::reference::{self, MOST_EDGES, MOST_IN_THREE_GROUPS, MOST_VERTICES};
 use crate::words::{
-    count, not_a_place, quoted, table_name, too_dear, too_many_lanes, wrong_place_count,
+    count, no_class, not_a_place, quoted, table_name, too_dear, too_many_lanes, wrong_place_count,
 };
 
-/// The words that begin a line.
-const LINE_WORDS: [&str; 12] = [
+/// The words that begin a line; those of lines that have numbers come first.
+const LINE_WORDS: [&str; 13] = [
     "places",
     "lane",
     "start",
     "goal",
+    "barred",
     "allowance",
     "round",
     "anchor",
@@ -36,7 +39,13 @@ const LINE_WORDS: [&str; 12] = [
     "bytes",
 ];
 
-/// What a line says, and its number in the text.
+/// The words of lines that have numbers, to be named in a message.
+fn number_words() -> String {
+    LINE_WORDS[..9].join(", ")
+}
+
+/// What a line says, and its number in the text; 0 if it does not stand
+/// there.
 #[derive(Clone, Debug, PartialEq, Eq)]
 pub struct Line<T> {
     pub number: usize,
@@ -47,8 +56,8 @@ pub struct Line<T> {
 #[derive(Clone, Debug, PartialEq, Eq)]
 pub struct PlanLines {
     pub places: Line<u32>,
-    /// Tail, head and cost of each lane.
-    pub lanes: Vec<Line<[u32; 3]>>,
+    /// Tail, head, cost and class of each lane.
+    pub lanes: Vec<Line<[u32; 4]>>,
 }
 
 #[derive(Clone, Debug, PartialEq, Eq)]
@@ -75,6 +84,7 @@ pub struct JobLines {
     pub plan: TextPlan,
     pub start: Line<u32>,
     pub goal: Line<u32>,
+    pub barred: Line<u32>,
     pub allowance: Line<u32>,
     pub rounds: Vec<Line<[u32; 2]>>,
     pub tables: TextTables,
@@ -121,7 +131,7 @@ impl<'a> Words<'a> {
         } else if LINE_WORDS.contains(&small.as_str()) {
             format!("'{small}' does, in small letters")
         } else {
-            format!("a line is {}", LINE_WORDS[..8].join(", "))
+            format!("a line is {}", number_words())
         };
         self.wrong(format!("{} begins no line; {hint}", quoted(self.word)))
     }
@@ -147,17 +157,27 @@ impl<'a> Words<'a> {
 
     /// Exactly N numbers.
     fn exactly<const N: usize>(&self) -> Result<Line<[u32; N]>, String> {
-        let there = self.rest.len();
         match self.numbers()?.try_into() {
             Ok(numbers) => Ok(self.says(numbers)),
-            Err(_) => {
-                let numbers = count(N, "number");
-                let stand = if there == 1 { "stands" } else { "stand" };
-                let word = self.word;
-                self.wrong(format!(
-                    "'{word}' takes {numbers}, and {there} {stand} there"
-                ))
-            }
+            Err(_) => self.takes(&count(N, "number")),
+        }
+    }
+
+    /// So many numbers are taken, and others stand there.
+    fn takes<T>(&self, numbers: &str) -> Result<T, String> {
+        let (word, there) = (self.word, self.rest.len());
+        let stand = if there == 1 { "stands" } else { "stand" };
+        self.wrong(format!(
+            "'{word}' takes {numbers}, and {there} {stand} there"
+        ))
+    }
+
+    /// Tail, head, cost and class of a lane; a class that is left out is 0.
+    fn lane(&self) -> Result<Line<[u32; 4]>, String> {
+        match self.numbers()?[..] {
+            [tail, head, cost] => Ok(self.says([tail, head, cost, 0])),
+            [tail, head, cost, class] => Ok(self.says([tail, head, cost, class])),
+            _ => self.takes("3 or 4 numbers"),
         }
     }
 
@@ -233,7 +253,7 @@ pub fn begins(text: &str) -> Begins {
              0E; pairs stand apart",
             words.line,
             quoted(words.word),
-            LINE_WORDS[..8].join(", ")
+            number_words()
         )),
     }
 }
@@ -272,7 +292,7 @@ fn missing(what: &str) -> String {
 #[derive(Default)]
 struct PlanParts {
     places: Option<Line<u32>>,
-    lanes: Vec<Line<[u32; 3]>>,
+    lanes: Vec<Line<[u32; 4]>>,
 }
 
 impl PlanParts {
@@ -280,7 +300,7 @@ impl PlanParts {
     fn take(&mut self, words: &Words) -> Result<bool, String> {
         match words.word {
             "places" => words.once(&mut self.places, words.one()?)?,
-            "lane" => self.lanes.push(words.exactly()?),
+            "lane" => self.lanes.push(words.lane()?),
             _ => return Ok(false),
         }
         Ok(true)
@@ -307,9 +327,9 @@ impl PlanLines {
         parts.finish()
     }
 
-    /// Tails, heads and costs.
-    pub fn lists(&self) -> [Vec<u32>; 3] {
-        [0, 1, 2].map(|part| self.lanes.iter().map(|lane| lane.says[part]).collect())
+    /// Tails, heads, costs and classes.
+    pub fn lists(&self) -> [Vec<u32>; 4] {
+        [0, 1, 2, 3].map(|part| self.lanes.iter().map(|lane| lane.says[part]).collect())
     }
 
     /// Whether the count of places is one that a plan may have.
@@ -339,7 +359,7 @@ impl PlanLines {
         push(line, lanes as u32, &|| too_many_lanes(lanes))?;
         let mut before = 0;
         for lane in &self.lanes {
-            let (line, [tail, head, cost]) = (lane.number, lane.says);
+            let (line, [tail, head, cost, class]) = (lane.number, lane.says);
             let Some(difference) = tail.checked_sub(before) else {
                 return Err(format!(
                     "line {line}: tail {tail} stands after tail {before}; lanes stand by rising \
@@ -349,6 +369,7 @@ impl PlanLines {
             push(line, difference, &|| not_a_place("tail", tail, places))?;
             push(line, head, &|| not_a_place("head", head, places))?;
             push(line, cost, &|| too_dear(cost))?;
+            push(line, class, &|| no_class(class))?;
             before = tail;
         }
         Ok(bytes)
@@ -373,10 +394,9 @@ impl PlanLines {
         let mut tail = 0u32;
         for _ in 0..count {
             tail = tail.checked_add(number()?)?;
-            let (head, cost) = (number()?, number()?);
             lanes.push(Line {
                 number: 0,
-                says: [tail, head, cost],
+                says: [tail, number()?, number()?, number()?],
             });
         }
         (at == bytes.len()).then_some(PlanLines { places, lanes })
@@ -387,8 +407,8 @@ impl fmt::Display for PlanLines {
     fn fmt(&self, f: &mut fmt::Formatter) -> fmt::Result {
         writeln!(f, "places {}", self.places.says)?;
         for lane in &self.lanes {
-            let [tail, head, cost] = lane.says;
-            writeln!(f, "lane {tail} {head} {cost}")?;
+            let [tail, head, cost, class] = lane.says;
+            writeln!(f, "lane {tail} {head} {cost} {class}")?;
         }
         Ok(())
     }
@@ -425,6 +445,7 @@ struct JobParts {
     plan: Option<Line<Vec<u8>>>,
     start: Option<Line<u32>>,
     goal: Option<Line<u32>>,
+    barred: Option<Line<u32>>,
     allowance: Option<Line<u32>>,
     rounds: Vec<Line<[u32; 2]>>,
     anchor: Option<Line<Vec<u32>>>,
@@ -440,6 +461,7 @@ impl JobParts {
             "plan" => words.more(&mut self.plan)?,
             "start" => words.once(&mut self.start, words.one()?)?,
             "goal" => words.once(&mut self.goal, words.one()?)?,
+            "barred" => words.once(&mut self.barred, words.one()?)?,
             "allowance" => words.once(&mut self.allowance, words.one()?)?,
             "round" => self.rounds.push(words.exactly()?),
             "anchor" => words.once(&mut self.anchor, words.says(words.numbers()?))?,
@@ -464,7 +486,7 @@ impl JobParts {
         let plan_lines = self.lines.places.is_some() || !self.lines.lanes.is_empty();
         let table_lines = self.anchor.is_some() || !self.guides.is_empty();
         let table_bytes = self.count.is_some() || self.tables.is_some();
-        let others = [&self.start, &self.goal, &self.allowance];
+        let others = [&self.start, &self.goal, &self.barred, &self.allowance];
         let other_lines = !self.rounds.is_empty() || others.iter().any(|line| line.is_some());
         let plan = self.plan.is_some();
         if plan && plan_lines {
@@ -500,6 +522,7 @@ impl JobParts {
             plan,
             start: self.start.ok_or(missing("start PLACE"))?,
             goal: self.goal.ok_or(missing("goal PLACE"))?,
+            barred: self.barred.unwrap_or(Line { number: 0, says: 0 }),
             allowance: self.allowance.ok_or(missing("allowance TURNS"))?,
             rounds: self.rounds,
             tables,
@@ -689,7 +712,7 @@ impl JobLines {
         let mut bytes = Vec::new();
         push_number(&mut bytes, plan.len() as u32);
         bytes.extend(plan);
-        for line in [&self.start, &self.goal, &self.allowance] {
+        for line in [&self.start, &self.goal, &self.barred, &self.allowance] {
             push_number(&mut bytes, line.says);
         }
         push_number(&mut bytes, self.rounds.len() as u32);
@@ -725,6 +748,7 @@ impl JobLines {
         };
         let start = line(job.number("the start")?);
         let goal = line(job.number("the goal")?);
+        let barred = line(job.number("the barred number")?);
         let allowance = line(job.number("the allowance")?);
         let mut rounds = Vec::new();
         for _ in 0..job.number("the count of rounds")? {
@@ -737,6 +761,7 @@ impl JobLines {
             plan,
             start,
             goal,
+            barred,
             allowance,
             rounds,
             tables,
@@ -756,6 +781,7 @@ impl fmt::Display for TextJob {
         }
         writeln!(f, "start {}", job.start.says)?;
         writeln!(f, "goal {}", job.goal.says)?;
+        writeln!(f, "barred {}", job.barred.says)?;
         writeln!(f, "allowance {}", job.allowance.says)?;
         for round in &job.rounds {
             let [w1, w2] = round.says;

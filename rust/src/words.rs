@@ -1,7 +1,8 @@
 //! Words that messages share: counts, names, quotes, and what a plan's
 //! numbers may be.
 
-use crate::reference::{MOST_COST, MOST_EDGES, MOST_VERTICES};
+use crate::planner::MOST_BARRED;
+use crate::reference::{MOST_CLASS, MOST_COST, MOST_EDGES, MOST_VERTICES};
 
 /// A count with the name of what is counted.
 pub fn count(number: usize, name: &str) -> String {
@@ -51,4 +52,12 @@ pub fn too_many_lanes(lanes: usize) -> String {
 
 pub fn too_dear(cost: u32) -> String {
     format!("cost {cost} is above {MOST_COST}")
+}
+
+pub fn no_class(class: u32) -> String {
+    format!("class {class} is above {MOST_CLASS}")
+}
+
+pub fn no_barred_number(barred: u32) -> String {
+    format!("barred {barred} is above {MOST_BARRED}; it has bit k for class k, classes 0 to 7")
 }

@@ -15,11 +15,12 @@ const RUNS: usize = 15;
 const CALLS: u32 = 100;
 
 /// One plan with eight edges at each vertex, a third of the costs in one
-/// group, a third in two and a third in three.
+/// group, a third in two and a third in three, and of all eight classes.
 struct Plan {
     tails: Vec<u32>,
     heads: Vec<u32>,
     costs: Vec<u32>,
+    classes: Vec<u32>,
 }
 
 fn largest_plan() -> Plan {
@@ -29,6 +30,7 @@ fn largest_plan() -> Plan {
         tails: Vec::with_capacity(EDGES),
         heads: Vec::with_capacity(EDGES),
         costs: Vec::with_capacity(EDGES),
+        classes: (0..EDGES as u32).map(|edge| edge * 31 % 61 % 8).collect(),
     };
     for tail in 0..VERTICES {
         let mut heads = Vec::new();
@@ -90,7 +92,7 @@ fn compare(name: &str, mut time: impl FnMut(&dyn Codec) -> f64) {
 fn main() {
     println!(
         "Reading and writing the largest plan ({VERTICES} vertices, {EDGES} edges, costs of one \
-         to three groups): ns per edge, median of {RUNS} alternating runs of {CALLS} calls, \
+         to three groups, eight classes): ns per edge, median of {RUNS} alternating runs of {CALLS} calls, \
          library / second implementation."
     );
     println!(
@@ -98,8 +100,15 @@ fn main() {
         "call", "library", "second", "ratio"
     );
     let plan = largest_plan();
-    let mut bytes = vec![0; 7 * EDGES + 6];
-    let written = Reference.write_plan(VERTICES, &plan.tails, &plan.heads, &plan.costs, &mut bytes);
+    let mut bytes = vec![0; 8 * EDGES + 6];
+    let written = Reference.write_plan(
+        VERTICES,
+        &plan.tails,
+        &plan.heads,
+        &plan.costs,
+        &plan.classes,
+        &mut bytes,
+    );
     assert_eq!(written[..2], [0, 0]);
     let length = written[2] as usize;
     bytes.truncate(length);
@@ -109,14 +118,17 @@ fn main() {
         run(|| side.check_plan(black_box(&bytes)), both)
     });
 
-    let (mut tails, mut heads, mut costs) = (vec![0; EDGES], vec![0; EDGES], vec![0; EDGES]);
+    let mut lists = [(); 4].map(|()| vec![0; EDGES]);
     compare("read_plan", |side| {
+        let [tails, heads, costs, classes] = &mut lists;
         run(
-            || side.read_plan(black_box(&bytes), &mut tails, &mut heads, &mut costs),
+            || side.read_plan(black_box(&bytes), tails, heads, costs, classes),
             both,
         )
     });
-    assert!(tails == plan.tails && heads == plan.heads && costs == plan.costs);
+    let [tails, heads, costs, classes] = lists;
+    assert!(tails == plan.tails && heads == plan.heads);
+    assert!(costs == plan.costs && classes == plan.classes);
 
     let mut out = vec![0; length];
     compare("write_plan", |side| {
@@ -127,6 +139,7 @@ fn main() {
                     black_box(&plan.tails),
                     &plan.heads,
                     &plan.costs,
+                    &plan.classes,
                     &mut out,
                 )
             },

@@ -18,15 +18,15 @@ const RUNS: usize = 15;
 /// call at least.
 const RUN_TIME: f64 = 50_000_000.0;
 
+/// The class that a call of the benchmark bars, if it bars one: that of one
+/// edge in twenty.
+const RAMP: u32 = 7;
+
 /// A floor of width × height vertices, which closes round at its edges; from
-/// each vertex edges lead to its eight neighbours.
+/// each vertex edges lead to its eight neighbours. One edge in twenty is a
+/// ramp.
 fn floor(random: &mut Random, width: u32, height: u32) -> Plan {
-    let mut plan = Plan {
-        vertices: width * height,
-        tails: Vec::new(),
-        heads: Vec::new(),
-        costs: Vec::new(),
-    };
+    let mut plan = Plan::without_edges(width * height);
     for tail in 0..plan.vertices {
         let (x, y) = (tail % width, tail / width);
         let mut heads = Vec::new();
@@ -42,6 +42,13 @@ fn floor(random: &mut Random, width: u32, height: u32) -> Plan {
             plan.costs.push(random.range32(100, 1_000));
         }
     }
+    // Costs and sheets are those of the floors before there were classes.
+    let mut random = Random::new(20);
+    let class = |_| match random.one_in(20) {
+        true => RAMP,
+        false => random.range32(0, RAMP - 1),
+    };
+    plan.classes = (0..plan.edges()).map(class).collect();
     plan
 }
 
@@ -61,7 +68,7 @@ fn job(seed: u64, width: u32, height: u32, sheets: Sheets) -> Job {
     let mut random = Random::new(seed);
     let plan = floor(&mut random, width, height);
     let (start, goal) = (0, width / 2 + height / 2 * width);
-    let distances: Vec<u32> = dijkstra::distances_to(&plan, goal)
+    let distances: Vec<u32> = dijkstra::distances_to(&plan, goal, dijkstra::NO_BAR)
         .into_iter()
         .map(|distance| distance.expect("all vertices have a walk to the goal") as u32)
         .collect();
@@ -198,7 +205,8 @@ fn compare_text(name: &str, job: &Job) {
 
 fn main() {
     println!(
-        "Whole calls on floors with eight edges at each vertex, eight guides, house schedule: \
+        "Whole calls on floors with eight edges at each vertex, eight guides, house schedule, \
+         nothing barred but in the last rows, which bar the class of one edge in twenty: \
          processor time, medians of {RUNS} alternating runs in the same memory, library / second \
          planner."
     );
@@ -221,5 +229,8 @@ fn main() {
              {second:.1} times"
         );
         compare_text(&format!("{name}, printed text"), &job(7, 16, 16, sheets));
+        let mut barred = job(7, 64, 64, sheets);
+        barred.barred = 1 << RAMP;
+        compare(&format!("{name}, ramps barred"), &barred);
     }
 }

@@ -9,6 +9,7 @@ use std::process::ExitCode;
 use secondcoop_tests::input::{name_of, Input};
 use secondcoop_tests::planner::HOUSE_SCHEDULE;
 use secondcoop_tests::planners::{self, Library, Planner, SecondPlanner};
+use secondcoop_tests::reference::LAST_REFUSAL;
 use secondcoop_tests::refusals::{position_words, refusal_words, remarks, Taker};
 use secondcoop_tests::run;
 use secondcoop_tests::text::{pairs_text, TextJob};
@@ -162,7 +163,7 @@ fn describe(number: &str) -> Done {
         Some((words, position)) => Done::well(format!("refusal {number}: {words}; {position}\n")),
         None => {
             let number = quoted(number);
-            let words = format!("{number} is not a refusal's number, 1 to 14");
+            let words = format!("{number} is not a refusal's number, 1 to {LAST_REFUSAL}");
             Done::wrong(NOTHING_DONE, words)
         }
     }

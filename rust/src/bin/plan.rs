@@ -1,9 +1,9 @@
 //! Turns a plan from its text form into plan bytes, or plan bytes into the
 //! text form, with the proved library.
 //!
-//! The text form has a line `places V`, then a line `lane TAIL HEAD COST` for
-//! each lane; `#` begins a comment. Bytes are read and printed as hexadecimal
-//! pairs.
+//! The text form has a line `places V`, then a line `lane TAIL HEAD COST
+//! CLASS` for each lane, without CLASS one of class 0; `#` begins a comment.
+//! Bytes are read and printed as hexadecimal pairs.
 
 use std::ffi::OsStr;
 use std::process::ExitCode;
@@ -17,8 +17,9 @@ use secondcoop_tests::tool::{self, Done, NOTHING_DONE, REFUSED};
 const USAGE: &str = "\
 usage: plan FILE
 Turns a plan from text into bytes, or from bytes into text, with the proved library. The text has
-a line 'places V', then a line 'lane TAIL HEAD COST' for each lane by rising tails and heads; bytes
-are hexadecimal pairs. - is standard input, and so is no FILE where nobody types.
+a line 'places V', then a line 'lane TAIL HEAD COST CLASS' for each lane by rising tails and heads;
+a class that is left out is 0. Bytes are hexadecimal pairs. - is standard input, and so is no FILE
+where nobody types.
 Exit status: 0 done; 3 refused, with the reason in plain words; 4 nothing was done: wrong use, a
 file or a line that cannot be read, or output that cannot be written.
 ";
@@ -31,13 +32,14 @@ fn refused(number: u64, position: u64, place: &str) -> Done {
 }
 
 fn to_bytes(plan: &PlanLines) -> Done {
-    let [tails, heads, costs] = plan.lists();
-    let mut out = vec![0; 6 + 9 * tails.len()];
+    let [tails, heads, costs, classes] = plan.lists();
+    let mut out = vec![0; 6 + 10 * tails.len()];
+    let places = plan.places.says;
     let [number, position, count, _] =
-        ffi::write_plan(plan.places.says, &tails, &heads, &costs, &mut out);
+        ffi::write_plan(places, &tails, &heads, &costs, &classes, &mut out);
     match (number, plan.lanes.get(position as usize)) {
         (0, _) => Done::well(pairs_text("", &out[..count as usize])),
-        (4..=6, Some(lane)) => {
+        (4..=6 | 15, Some(lane)) => {
             let place = format!(", lane {position} counted from 0, line {}", lane.number);
             refused(number, position, &place)
         }
@@ -51,24 +53,22 @@ fn to_text(bytes: &[u8]) -> Done {
     if number != 0 {
         return refused(number, position, &place(position));
     }
-    let mut lists = [(); 3].map(|()| vec![0; lanes as usize]);
-    let [tails, heads, costs] = &mut lists;
-    let [number, position, places, _] = ffi::read_plan(bytes, tails, heads, costs);
+    let mut lists = [(); 4].map(|()| vec![0; lanes as usize]);
+    let [tails, heads, costs, classes] = &mut lists;
+    let [number, position, places, _] = ffi::read_plan(bytes, tails, heads, costs, classes);
     if number != 0 {
         return refused(number, position, &place(position));
     }
-    let lanes = tails.iter().zip(heads).zip(costs);
+    let lane = |lane: usize| Line {
+        number: 0,
+        says: lists.each_ref().map(|list| list[lane]),
+    };
     let plan = PlanLines {
         places: Line {
             number: 0,
             says: places as u32,
         },
-        lanes: lanes
-            .map(|((tail, head), cost)| Line {
-                number: 0,
-                says: [*tail, *head, *cost],
-            })
-            .collect(),
+        lanes: (0..lanes as usize).map(lane).collect(),
     };
     Done::well(plan.to_string())
 }
