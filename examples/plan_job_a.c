@@ -11,11 +11,13 @@
 
 #include "secondcoop.h"
 
-enum { PLACES = 4, LANES = 4, ROUNDS = 2, LENGTH = 4 };
+enum { PLACES = 4, LANES = 4, ROUNDS = 2, LENGTH = 4, NO_BAR = 0 };
 
 int main(void)
 {
-    static const uint8_t plan[] = {4, 4, 0, 1, 1, 0, 2, 4, 1, 2, 2, 1, 3, 3};
+    /* V and M, then tail difference, head, cost and class of each lane. */
+    static const uint8_t plan[] = {PLACES, LANES, 0, 1, 1, 0, 0, 2, 4, 0,
+                                   1, 2, 2, 0, 1, 3, 3, 0};
     static const uint32_t anchor[PLACES] = {6, 5, 3, 0};
     static const uint32_t guide[PLACES] = {0, 9, 0, 0};
     static const uint32_t schedule[2 * ROUNDS] = {200, 200, 100, 100};
@@ -24,8 +26,9 @@ int main(void)
     uint32_t work[SECONDCOOP_WORK_WORDS(PLACES, LANES)];
     uint64_t figures[SECONDCOOP_PLAN_FIGURES];
 
-    /* Job A's allowance is 100 turns; SECONDCOOP_TURNS, 16, would do. */
-    secondcoop_plan(plan, sizeof plan, 0, 3, anchor, PLACES, guide, PLACES, 1,
+    /* Job A bars no class; SECONDCOOP_CLASS(1) would keep a tug off lanes of
+     * class 1. Its allowance is 100 turns; SECONDCOOP_TURNS, 16, would do. */
+    secondcoop_plan(plan, sizeof plan, 0, 3, NO_BAR, anchor, PLACES, guide, PLACES, 1,
                     schedule, 2 * ROUNDS, 100,
                     route, PLACES, log, sizeof log / sizeof log[0],
                     work, sizeof work / sizeof work[0], figures);

@@ -2,13 +2,17 @@
  * The tug route planner, as C functions.
  *
  * A plan has V places, 1 to 4096, numbered from 0, and M one-way lanes, 0 to
- * 32768; a lane has a tail, a head and a cost, 0 to 1000000, and there is at
- * most one lane for a tail and a head. Plan bytes are V, M, then for each
- * lane: tail minus the previous lane's tail (minus 0 for the first), head,
- * cost; heads rise strictly under one tail. Each number stands in one to
- * three groups of seven bits, lowest group first; a byte's top bit is set
- * when another group follows, and the last group is not zero unless it is
- * the only one.
+ * 32768; a lane has a tail, a head, a cost, 0 to 1000000, and a class, 0 to
+ * 7, and there is at most one lane for a tail and a head. Plan bytes are V,
+ * M, then for each lane: tail minus the previous lane's tail (minus 0 for the
+ * first), head, cost, class; heads rise strictly under one tail. Each number
+ * stands in one to three groups of seven bits, lowest group first; a byte's
+ * top bit is set when another group follows, and the last group is not zero
+ * unless it is the only one.
+ *
+ * A planner call names classes that it bars: their lanes are not tried, and
+ * no chain of lanes uses them. What a class stands for, as a ramp that some
+ * tugs keep off, is the caller's.
  *
  * For every function:
  * - A list is a pointer and the count of its elements. It is aligned as its
@@ -44,14 +48,16 @@
  *   tail, then head    4  not a place                            same
  *   head               6  not above the last head of that tail   same
  *   cost               5  above 1000000                          same
+ *   class             15  above 7                                same
  *   plan's end         7  bytes left over                        first of them
- *   call               8  start or goal not a place              0
+ *   call               8  start or goal not a place, or barred   0
+ *                         above 255
  *   call               9  over 8 guides, or tables not V         0
  *                         numbers each
  *   call              10  schedule over 16 rounds, odd, out of   0
  *                         range or rising
  *   call              11  route under V words, or work under     0
- *                         5V+1+2M
+ *                         5V+1+3M
  *   anchor table      12  not 0 at the goal                      0
  *   anchor table      13  a lane breaks its rule                 first such lane
  *   bench program     14  not a job for the bench program        0
@@ -68,16 +74,25 @@ extern "C" {
 
 /* The version of this interface: it rises when a declaration changes, or
  * what a number or a word of memory means. */
-#define SECONDCOOP_VERSION 1
+#define SECONDCOOP_VERSION 2
 
 /* Limits of a plan and of a call. */
 #define SECONDCOOP_MAX_PLACES 4096
 #define SECONDCOOP_MAX_LANES 32768
 #define SECONDCOOP_MAX_COST 1000000
+#define SECONDCOOP_MAX_CLASS 7
+#define SECONDCOOP_MAX_BARRED 255
 #define SECONDCOOP_MAX_GUIDES 8
 #define SECONDCOOP_MAX_ROUNDS 16
 #define SECONDCOOP_MIN_FACTOR 100
 #define SECONDCOOP_MAX_FACTOR 10000
+
+/*
+ * The bit of class k, 0 to 7, in a barred number: a call that bars classes 0
+ * and 2 has SECONDCOOP_CLASS(0) | SECONDCOOP_CLASS(2), which is 5; one that
+ * bars nothing has 0, one that bars all lanes SECONDCOOP_MAX_BARRED.
+ */
+#define SECONDCOOP_CLASS(k) (UINT32_C(1) << (k))
 
 /* The rounds of the house schedule, which an empty schedule means. */
 #define SECONDCOOP_HOUSE_ROUNDS 6
@@ -87,10 +102,10 @@ extern "C" {
  * bytes that are always enough for the text of a bench job. */
 #define SECONDCOOP_FIGURES 4
 #define SECONDCOOP_PLAN_FIGURES 8
-#define SECONDCOOP_PLAN_BYTES(lanes) (6 + 9 * (size_t)(lanes))
+#define SECONDCOOP_PLAN_BYTES(lanes) (6 + 10 * (size_t)(lanes))
 #define SECONDCOOP_ROUTE_WORDS(places) ((size_t)(places))
 #define SECONDCOOP_WORK_WORDS(places, lanes) \
-    (5 * (size_t)(places) + 1 + 2 * (size_t)(lanes))
+    (5 * (size_t)(places) + 1 + 3 * (size_t)(lanes))
 #define SECONDCOOP_MAX_TEXT 289654
 
 /*
@@ -107,7 +122,7 @@ extern "C" {
  * secondcoop_plan, of secondcoop_bench_text. Measured, with room to spare. */
 #define SECONDCOOP_STACK 1024
 #define SECONDCOOP_PLAN_STACK 16384
-#define SECONDCOOP_TEXT_STACK 81920
+#define SECONDCOOP_TEXT_STACK 90112
 
 /* Not reached, never expanded, no predecessor; and what follows a route. */
 #define SECONDCOOP_NONE UINT32_C(4294967295)
@@ -120,7 +135,7 @@ enum {
     SECONDCOOP_SECOND = 3
 };
 
-/* Refusal numbers, as in the table above. */
+/* Refusal numbers, as in the table above; the ends are start and goal. */
 enum {
     SECONDCOOP_NOT_REFUSED = 0,
     SECONDCOOP_BAD_NUMBER = 1,
@@ -130,13 +145,14 @@ enum {
     SECONDCOOP_BAD_COST = 5,
     SECONDCOOP_BAD_LANE_ORDER = 6,
     SECONDCOOP_BYTES_LEFT_OVER = 7,
-    SECONDCOOP_BAD_START_OR_GOAL = 8,
+    SECONDCOOP_BAD_ENDS_OR_BARRED = 8,
     SECONDCOOP_BAD_TABLES = 9,
     SECONDCOOP_BAD_SCHEDULE = 10,
     SECONDCOOP_SHORT_MEMORY = 11,
     SECONDCOOP_ANCHOR_NOT_0_AT_GOAL = 12,
     SECONDCOOP_ANCHOR_BREAKS_RULE = 13,
-    SECONDCOOP_NOT_A_JOB = 14
+    SECONDCOOP_NOT_A_JOB = 14,
+    SECONDCOOP_BAD_CLASS = 15
 };
 
 /*
@@ -165,27 +181,28 @@ void secondcoop_write_plan_number(uint8_t *out, size_t out_length, size_t at,
 
 /*
  * Checks plan bytes.
- * Figures: the first of refusals 1 to 7 and its position, or V and M.
+ * Figures: the first of refusals 1 to 7 and 15 and its position, or V and M.
  */
 void secondcoop_check_plan(const uint8_t *bytes, size_t bytes_length,
                            uint64_t *figures);
 
 /*
- * Reads plan bytes into three lists: the first M elements of each get the
- * lanes' tails, heads and costs, in plan order.
- * Figures: the first of refusals 1 to 7 and its position, then refusal 11 if
- * a list has under M elements; or V and M.
+ * Reads plan bytes into four lists: the first M elements of each get the
+ * lanes' tails, heads, costs and classes, in plan order.
+ * Figures: the first of refusals 1 to 7 and 15 and its position, then refusal
+ * 11 if a list has under M elements; or V and M.
  */
 void secondcoop_read_plan(const uint8_t *bytes, size_t bytes_length,
                           uint32_t *tails, size_t tails_length,
                           uint32_t *heads, size_t heads_length,
                           uint32_t *costs, size_t costs_length,
+                          uint32_t *classes, size_t classes_length,
                           uint64_t *figures);
 
 /*
- * Writes plan bytes from V and three equal lists in plan order.
+ * Writes plan bytes from V and four equal lists in plan order.
  * Figures: refusal 2, then 3 (also for unequal lists), then lane by lane 4,
- * 6 (also for a falling tail), 5, with the lane's number as position, and
+ * 6 (also for a falling tail), 5, 15, with the lane's number as position, and
  * last 11 if the output is too short; or the count of bytes written as first
  * value. SECONDCOOP_PLAN_BYTES(M) bytes are always enough.
  */
@@ -193,6 +210,7 @@ void secondcoop_write_plan(uint32_t vertices,
                            const uint32_t *tails, size_t tails_length,
                            const uint32_t *heads, size_t heads_length,
                            const uint32_t *costs, size_t costs_length,
+                           const uint32_t *classes, size_t classes_length,
                            uint8_t *out, size_t out_length,
                            uint64_t *figures);
 
@@ -217,12 +235,16 @@ enum {
 };
 
 /*
- * Plans a route from start to goal.
+ * Plans a route from start to goal over permitted lanes: those whose class
+ * is not barred.
  *
  * bytes        The plan.
- * anchor       The anchor table, V numbers: 0 at the goal, and on every lane
- *              the tail's number is at most cost + the head's number. A table
- *              of zeros always passes.
+ * barred       The classes that are barred, 0 to 255, bit k for class k: 0
+ *              bars nothing, 2 bars class 1, 5 bars classes 0 and 2
+ *              (SECONDCOOP_CLASS).
+ * anchor       The anchor table, V numbers: 0 at the goal, and on every lane,
+ *              barred ones too, the tail's number is at most cost + the
+ *              head's number. A table of zeros always passes.
  * guides       The guide sheets one after another, guide_count times V
  *              numbers, guide_count 0 to 8; any numbers.
  * schedule     W1 and W2 of each round in hundredths, 100 to 10000, neither
@@ -237,11 +259,11 @@ enum {
  * - route:      kept cost, route length (the number of its places), finished
  *               rounds, turns, and as bound W1*W2 of the last finished
  *               round. Given when at least one round finished. 10000 * kept
- *               cost is at most the bound times the cost of every chain from
- *               start to goal.
- * - no route:   turns. No chain leads from start to goal.
+ *               cost is at most the bound times the cost of every chain of
+ *               permitted lanes from start to goal.
+ * - no route:   turns. No chain of permitted lanes leads from start to goal.
  * - unfinished: turns. The allowance was spent in the first round.
- * - refused:    refusal number, 1 to 13, and position.
+ * - refused:    refusal number, 1 to 13 or 15, and position.
  *
  * Lent memory, in 32-bit words:
  * - route, at least V words: the places from start to goal, then
@@ -250,16 +272,16 @@ enum {
  *   65536 * table (0 is the anchor, 1 the first guide); turns past its end
  *   are not logged. No call has more turns than its allowance, nor more than
  *   2 * V times its rounds.
- * - work, at least 5V+1+2M words (SECONDCOOP_WORK_WORDS): V+1 first lane
- *   numbers (the last is M), M heads, M costs, then four words for each
- *   place: its cost g, its cost when last expanded, its predecessor, and its
- *   marks as a sum, as the search left them. Marks: 1 expanded for a guide
- *   and 2 for the anchor, in the last round that began; 4 open, it may be
- *   expanded; 8 held, its cost fell after the anchor expanded it, and it
- *   waits for the next round.
+ * - work, at least 5V+1+3M words (SECONDCOOP_WORK_WORDS): V+1 first lane
+ *   numbers (the last is M), M heads, M costs, M classes, of all lanes, barred
+ *   ones too; then four words for each place: its cost g, its cost when last
+ *   expanded, its predecessor, and its marks as a sum, as the search left
+ *   them. Marks: 1 expanded for a guide and 2 for the anchor, in the last
+ *   round that began; 4 open, it may be expanded; 8 held, its cost fell after
+ *   the anchor expanded it, and it waits for the next round.
  */
 void secondcoop_plan(const uint8_t *bytes, size_t bytes_length,
-                     uint32_t start, uint32_t goal,
+                     uint32_t start, uint32_t goal, uint32_t barred,
                      const uint32_t *anchor, size_t anchor_length,
                      const uint32_t *guides, size_t guides_length,
                      uint32_t guide_count,
@@ -272,9 +294,9 @@ void secondcoop_plan(const uint8_t *bytes, size_t bytes_length,
 
 /*
  * What the bench program prints for a job's bytes: plan length, the plan,
- * start, goal, allowance, count of rounds and their factors, guide count,
- * anchor table, guide sheets, each number in up to five groups and 32 bits.
- * Each line ends in a newline:
+ * start, goal, barred number, allowance, count of rounds and their factors,
+ * guide count, anchor table, guide sheets, each number in up to five groups
+ * and 32 bits. Each line ends in a newline:
  *
  *   turn K table T place S       for each turn, then one of:
  *   route S S ..                 and in a second line

@@ -33,15 +33,16 @@ static void place(int shift)
 /* A ring of places with lanes over one place, as plan bytes in `bytes[0]`. */
 static size_t plan_bytes(void)
 {
-    uint32_t tails[LANES], heads[LANES], costs[LANES];
+    uint32_t tails[LANES], heads[LANES], costs[LANES], classes[LANES];
     for (uint32_t lane = 0; lane < LANES; lane++) {
         tails[lane] = lane / 2;
         heads[lane] = lane / 2 + 1 - (lane % 2 == 0 ? 1 : 0);
         costs[lane] = 1000 * lane;
+        classes[lane] = lane % 2;
     }
     uint64_t written[SECONDCOOP_FIGURES];
-    secondcoop_write_plan(PLACES, tails, LANES, heads, LANES, costs, LANES, bytes[0], BYTES,
-                          written);
+    secondcoop_write_plan(PLACES, tails, LANES, heads, LANES, costs, LANES, classes, LANES,
+                          bytes[0], BYTES, written);
     return written[SECONDCOOP_FIRST];
 }
 
@@ -56,7 +57,7 @@ static void read_plan(void)
 {
     const size_t length = plan_bytes();
     secondcoop_read_plan(bytes[0], length, words[0], LANES, words[1], LANES, words[2], LANES,
-                         figures);
+                         words[3], LANES, figures);
     secondcoop_check_plan(bytes[0], length, figures + 4);
 }
 
@@ -64,9 +65,9 @@ static void write_plan(void)
 {
     const size_t length = plan_bytes();
     secondcoop_read_plan(bytes[0], length, words[0], LANES, words[1], LANES, words[2], LANES,
-                         figures);
-    secondcoop_write_plan(PLACES, words[0], LANES, words[1], LANES, words[2], LANES, bytes[1],
-                          BYTES, figures);
+                         words[3], LANES, figures);
+    secondcoop_write_plan(PLACES, words[0], LANES, words[1], LANES, words[2], LANES, words[3],
+                          LANES, bytes[1], BYTES, figures);
 }
 
 static void plan_call(void)
@@ -77,15 +78,16 @@ static void plan_call(void)
         words[1][at] = at * 7919 % 13;
     }
     words[2][0] = 300, words[2][1] = 200, words[2][2] = 100, words[2][3] = 100;
-    secondcoop_plan(bytes[0], length, 0, PLACES - 1, words[0], PLACES, words[1], PLACES, 1,
-                    words[2], 4, 1000, words[3], PLACES, words[4], 40,
+    /* The lanes of class 0 lead from a place to itself. */
+    secondcoop_plan(bytes[0], length, 0, PLACES - 1, SECONDCOOP_CLASS(0), words[0], PLACES,
+                    words[1], PLACES, 1, words[2], 4, 1000, words[3], PLACES, words[4], 40,
                     words[5], SECONDCOOP_WORK_WORDS(PLACES, LANES), figures);
 }
 
 static void bench_text(void)
 {
-    static const uint8_t job[] = {14, 4, 4, 0, 1, 1, 0, 2, 4, 1, 2, 2, 1, 3, 3, 0, 3, 100, 0, 0,
-                                  0, 0, 0, 0};
+    static const uint8_t job[] = {18, 4, 4, 0, 1, 1, 0, 0, 2, 4, 0, 1, 2, 2, 0, 1, 3, 3, 0,
+                                  0, 3, 0, 100, 0, 0, 0, 0, 0, 0};
     memcpy(bytes[0], job, sizeof job);
     figures[0] = secondcoop_bench_text(bytes[0], sizeof job, bytes[1], BYTES);
 }

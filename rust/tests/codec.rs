@@ -91,11 +91,13 @@ fn damaged_plans_are_refused_alike() {
         (1, Some(Field::Tail)),
         (1, Some(Field::Head)),
         (1, Some(Field::Cost)),
+        (1, Some(Field::Class)),
         (2, Some(Field::Vertices)),
         (3, Some(Field::Edges)),
         (4, Some(Field::Tail)),
         (4, Some(Field::Head)),
         (5, Some(Field::Cost)),
+        (15, Some(Field::Class)),
         (6, Some(Field::Head)),
         (7, None),
     ] {
@@ -105,11 +107,26 @@ fn damaged_plans_are_refused_alike() {
             .map_or(0, |(_, count)| *count);
         assert!(count >= 700, "class {class:?}: {count} cases");
     }
-    assert_eq!(seen.len(), 12, "a class that is not listed: {seen:?}");
-    let each: Vec<(usize, u64)> = (1..=7).map(|number| (number, 700)).collect();
+    assert_eq!(seen.len(), 14, "a class that is not listed: {seen:?}");
+    let each = [1, 2, 3, 4, 5, 6, 7, 15].map(|number| (number, 700));
     met(&comparison, CHECK_PLAN, &each);
     met(&comparison, READ_PLAN, &each);
     assert_eq!((comparison.cases, comparison.known), (80_000, 80_000));
+}
+
+/// A class above 7 at every edge, read and written, and a class of bad form.
+#[test]
+fn damaged_classes_are_refused_alike() {
+    let mut comparison = Comparison::new(&Library, &Reference);
+    generate::damaged_classes(31, 1_500, &mut |case, known| {
+        comparison.must_agree(&case, known)
+    });
+    comparison.report("damaged_classes_are_refused_alike");
+    for kind in [CHECK_PLAN, READ_PLAN] {
+        met(&comparison, kind, &[(1, 10_000), (15, 5_000)]);
+    }
+    met(&comparison, WRITE_PLAN, &[(15, 5_000)]);
+    assert_eq!(comparison.cases, comparison.known);
 }
 
 #[test]
@@ -135,6 +152,7 @@ fn random_bytes_are_read_alike() {
     });
     comparison.report("random_bytes_are_read_alike");
     let each: Vec<(usize, u64)> = (0..=7)
+        .chain([15])
         .map(|number| (number, if number == 3 { 10 } else { 300 }))
         .collect();
     met(&comparison, CHECK_PLAN, &each);
@@ -165,6 +183,7 @@ fn lists_are_written_alike() {
             (5, 3_000),
             (6, 3_000),
             (11, 3_000),
+            (15, 3_000),
         ],
     );
     assert!(comparison.cases >= 110_000 && comparison.known >= 50_000);
@@ -184,20 +203,20 @@ fn round_trips() {
             &plan.tails,
             &plan.heads,
             &plan.costs,
+            &plan.classes,
             &mut bytes,
         );
         assert_eq!(answer, [0, 0, length as u64, 0]);
         bytes.truncate(length);
         assert_eq!(bytes, plan.bytes());
-        let (mut tails, mut heads, mut costs) = (vec![9; edges], vec![9; edges], vec![9; edges]);
-        let answer = Library.read_plan(&bytes, &mut tails, &mut heads, &mut costs);
+        let mut lists = [(); 4].map(|()| vec![9; edges]);
+        let [tails, heads, costs, classes] = &mut lists;
+        let answer = Library.read_plan(&bytes, tails, heads, costs, classes);
         assert_eq!(answer, [0, 0, plan.vertices.into(), edges as u64]);
-        assert_eq!(
-            (&tails, &heads, &costs),
-            (&plan.tails, &plan.heads, &plan.costs)
-        );
+        assert_eq!((&*tails, &*heads), (&plan.tails, &plan.heads));
+        assert_eq!((&*costs, &*classes), (&plan.costs, &plan.classes));
         let mut again = vec![0; length];
-        Library.write_plan(plan.vertices, &tails, &heads, &costs, &mut again);
+        Library.write_plan(plan.vertices, tails, heads, costs, classes, &mut again);
         assert_eq!(again, bytes);
         trips += 1;
     };

@@ -16,7 +16,7 @@ static void expect(const char *name, const uint64_t *figures,
     }
 }
 
-static const uint8_t plan_a[] = {4, 4, 0, 1, 1, 0, 2, 4, 1, 2, 2, 1, 3, 3};
+static const uint8_t plan_a[] = {4, 4, 0, 1, 1, 0, 0, 2, 4, 0, 1, 2, 2, 0, 1, 3, 3, 0};
 
 static void numbers(void)
 {
@@ -40,28 +40,37 @@ static void numbers(void)
 static void plans(void)
 {
     uint64_t figures[SECONDCOOP_FIGURES];
-    uint32_t tails[4], heads[4], costs[4];
-    uint8_t out[14];
+    uint32_t tails[4], heads[4], costs[4], classes[4];
+    uint8_t out[18];
     secondcoop_check_plan(plan_a, sizeof plan_a, figures);
     expect("check_plan", figures, (const uint64_t[]){SECONDCOOP_NOT_REFUSED, 0, 4, 4}, 4);
-    secondcoop_check_plan(plan_a, 13, figures);
-    expect("check_plan refuses", figures, (const uint64_t[]){1, 13, 0, 0}, 4);
-    secondcoop_read_plan(plan_a, sizeof plan_a, tails, 3, heads, 4, costs, 4, figures);
+    secondcoop_check_plan(plan_a, 17, figures);
+    expect("check_plan refuses", figures, (const uint64_t[]){1, 17, 0, 0}, 4);
+    secondcoop_read_plan(plan_a, sizeof plan_a, tails, 4, heads, 4, costs, 4, classes, 3,
+                         figures);
     expect("read_plan refuses", figures, (const uint64_t[]){11, 0, 0, 0}, 4);
-    secondcoop_read_plan(plan_a, sizeof plan_a, tails, 4, heads, 4, costs, 4, figures);
+    secondcoop_read_plan(plan_a, sizeof plan_a, tails, 4, heads, 4, costs, 4, classes, 4,
+                         figures);
     expect("read_plan", figures, (const uint64_t[]){0, 0, 4, 4}, 4);
-    secondcoop_write_plan(4, tails, 4, heads, 4, costs, 4, out, sizeof out, figures);
-    expect("write_plan", figures, (const uint64_t[]){0, 0, 14, 0}, 4);
+    secondcoop_write_plan(4, tails, 4, heads, 4, costs, 4, classes, 4, out, sizeof out,
+                          figures);
+    expect("write_plan", figures, (const uint64_t[]){0, 0, 18, 0}, 4);
     if (memcmp(out, plan_a, sizeof out) != 0)
         wrong++;
-    secondcoop_write_plan(4, tails, 4, heads, 3, costs, 4, out, sizeof out, figures);
+    secondcoop_write_plan(4, tails, 4, heads, 4, costs, 4, classes, 3, out, sizeof out,
+                          figures);
     expect("write_plan refuses", figures, (const uint64_t[]){3, 0, 0, 0}, 4);
+    classes[2] = SECONDCOOP_MAX_CLASS + 1;
+    secondcoop_write_plan(4, tails, 4, heads, 4, costs, 4, classes, 4, out, sizeof out,
+                          figures);
+    expect("write_plan refuses a class", figures,
+           (const uint64_t[]){SECONDCOOP_BAD_CLASS, 2, 0, 0}, 4);
 }
 
 /* Each figure by its name. */
 static void names(void)
 {
-    static const uint8_t plan[] = {3, 1, 0, 2, 5};
+    static const uint8_t plan[] = {3, 1, 0, 2, 5, 0};
     static const uint32_t anchor[3] = {0, 0, 0}, schedule[] = {300, 200};
     uint64_t figures[SECONDCOOP_PLAN_FIGURES];
     uint32_t route[3], log[1], work[SECONDCOOP_WORK_WORDS(3, 1)];
@@ -71,13 +80,13 @@ static void names(void)
     secondcoop_check_plan(plan, 3, figures);
     wrong += figures[SECONDCOOP_REFUSAL] != SECONDCOOP_BAD_NUMBER;
     wrong += figures[SECONDCOOP_POSITION] != 3;
-    secondcoop_plan(plan, sizeof plan, 0, 2, anchor, 3, anchor, 0, 0, schedule, 2, 9,
+    secondcoop_plan(plan, sizeof plan, 0, 2, 0, anchor, 3, anchor, 0, 0, schedule, 2, 9,
                     route, 3, log, 1, work, sizeof work / sizeof work[0], figures);
     wrong += figures[SECONDCOOP_PLAN_ENDING] != SECONDCOOP_ROUTE;
     wrong += figures[SECONDCOOP_PLAN_COST] != 5 || figures[SECONDCOOP_PLAN_LENGTH] != 2;
     wrong += figures[SECONDCOOP_PLAN_ROUNDS] != 1 || figures[SECONDCOOP_PLAN_TURNS] != 1;
     wrong += figures[SECONDCOOP_PLAN_BOUND] != 60000;
-    secondcoop_plan(plan, 4, 0, 2, anchor, 3, anchor, 0, 0, schedule, 2, 9,
+    secondcoop_plan(plan, 4, 0, 2, 0, anchor, 3, anchor, 0, 0, schedule, 2, 9,
                     route, 3, log, 1, work, sizeof work / sizeof work[0], figures);
     wrong += figures[SECONDCOOP_PLAN_ENDING] != SECONDCOOP_REFUSED;
     wrong += figures[SECONDCOOP_PLAN_REFUSAL] != SECONDCOOP_BAD_NUMBER;
@@ -91,24 +100,55 @@ static void planner(void)
     uint32_t route[2] = {7, 7}, log[1] = {7}, work[11];
     const uint32_t none = SECONDCOOP_NONE;
     uint64_t figures[SECONDCOOP_PLAN_FIGURES];
-    secondcoop_plan(plan, sizeof plan, 0, 1, anchor, 2, guides, 2, 1, guides, 0, 9,
+    secondcoop_plan(plan, sizeof plan, 0, 1, 0, anchor, 2, guides, 2, 1, guides, 0, 9,
                     route, 2, log, 1, work, 11, figures);
     expect("plan", figures, (const uint64_t[]){SECONDCOOP_NO_ROUTE, 0, 0, 0, 0, 0, 1, 0}, 8);
     if (route[0] != 7 || log[0] != 0 || work[4] != 0 || work[8] != none)
         wrong++;
-    secondcoop_plan(plan, sizeof plan, 0, 1, anchor, 2, guides, 2, 1, guides, 0, 0,
+    secondcoop_plan(plan, sizeof plan, 0, 1, 0, anchor, 2, guides, 2, 1, guides, 0, 0,
                     route, 2, log, 1, work, 11, figures);
     expect("plan without turns", figures,
            (const uint64_t[]){SECONDCOOP_UNFINISHED, 0, 0, 0, 0, 0, 0, 0}, 8);
-    secondcoop_plan(plan, sizeof plan, 0, 2, anchor, 2, guides, 2, 1, guides, 0, 9,
+    secondcoop_plan(plan, sizeof plan, 0, 2, 0, anchor, 2, guides, 2, 1, guides, 0, 9,
                     route, 2, log, 1, work, 11, figures);
     expect("plan refuses", figures,
            (const uint64_t[]){SECONDCOOP_REFUSED, 8, 0, 0, 0, 0, 0, 0}, 8);
 }
 
+/* Lanes of classes 0, 1 and 2 from place 0 to 2, to 1 and from 1 to 2: what a
+ * barred number leaves of them. */
+static void barred(void)
+{
+    static const uint8_t plan[] = {3, 3, 0, 1, 1, 1, 0, 2, 9, 0, 1, 2, 1, 2};
+    static const uint32_t anchor[3] = {0, 0, 0};
+    static const struct {
+        uint32_t barred;
+        uint64_t ending, cost;
+    } calls[] = {
+        {0, SECONDCOOP_ROUTE, 2},
+        {SECONDCOOP_CLASS(0), SECONDCOOP_ROUTE, 2},
+        {SECONDCOOP_CLASS(1), SECONDCOOP_ROUTE, 9},
+        {SECONDCOOP_CLASS(1) | SECONDCOOP_CLASS(2), SECONDCOOP_ROUTE, 9},
+        {SECONDCOOP_CLASS(0) | SECONDCOOP_CLASS(2), SECONDCOOP_NO_ROUTE, 0},
+        {SECONDCOOP_MAX_BARRED & ~SECONDCOOP_CLASS(0), SECONDCOOP_ROUTE, 9},
+        {SECONDCOOP_MAX_BARRED, SECONDCOOP_NO_ROUTE, 0},
+        {SECONDCOOP_MAX_BARRED + 1, SECONDCOOP_REFUSED, 0},
+    };
+    uint32_t route[3], log[1], work[SECONDCOOP_WORK_WORDS(3, 3)];
+    uint64_t figures[SECONDCOOP_PLAN_FIGURES];
+    for (size_t at = 0; at < sizeof calls / sizeof *calls; at++) {
+        secondcoop_plan(plan, sizeof plan, 0, 2, calls[at].barred, anchor, 3, anchor, 0, 0,
+                        anchor, 0, 99, route, 3, log, 1,
+                        work, sizeof work / sizeof work[0], figures);
+        wrong += figures[SECONDCOOP_PLAN_ENDING] != calls[at].ending;
+        wrong += figures[SECONDCOOP_PLAN_COST] != calls[at].cost;
+    }
+    wrong += figures[SECONDCOOP_PLAN_REFUSAL] != SECONDCOOP_BAD_ENDS_OR_BARRED;
+}
+
 static void text(void)
 {
-    static const uint8_t job[] = {2, 2, 0, 0, 1, 1, 0, 0, 0, 0};
+    static const uint8_t job[] = {2, 2, 0, 0, 1, 0, 1, 0, 0, 0, 0};
     static const char printed[] = "turn 1 table 0 place 0\nno route turns 1\n";
     uint8_t lent[64];
     memset(lent, 0xEE, sizeof lent);
@@ -124,13 +164,16 @@ static void text(void)
 }
 
 /* Sizes, also within other expressions. */
-_Static_assert(SECONDCOOP_PLAN_BYTES(0) == 6 && SECONDCOOP_PLAN_BYTES(1) == 15, "plan bytes");
-_Static_assert(2 * SECONDCOOP_PLAN_BYTES(2 + 2) == 84, "plan bytes");
-_Static_assert(SECONDCOOP_PLAN_BYTES(SECONDCOOP_MAX_LANES) == 294918, "plan bytes");
+_Static_assert(SECONDCOOP_PLAN_BYTES(0) == 6 && SECONDCOOP_PLAN_BYTES(1) == 16, "plan bytes");
+_Static_assert(2 * SECONDCOOP_PLAN_BYTES(2 + 2) == 92, "plan bytes");
+_Static_assert(SECONDCOOP_PLAN_BYTES(SECONDCOOP_MAX_LANES) == 327686, "plan bytes");
 _Static_assert(2 * SECONDCOOP_ROUTE_WORDS(2 + 2) == 8, "route words");
-_Static_assert(2 * SECONDCOOP_WORK_WORDS(2 + 2, 2 + 3) == 62, "work words");
+_Static_assert(2 * SECONDCOOP_WORK_WORDS(2 + 2, 2 + 3) == 72, "work words");
 _Static_assert(SECONDCOOP_WORK_WORDS(1, 0) == 6, "work words");
-_Static_assert(SECONDCOOP_WORK_WORDS(4096, 32768) == 86017, "work words");
+_Static_assert(SECONDCOOP_WORK_WORDS(4096, 32768) == 118785, "work words");
+_Static_assert(SECONDCOOP_CLASS(0) == 1 && SECONDCOOP_CLASS(7 - 1) == 64, "classes");
+_Static_assert((SECONDCOOP_CLASS(SECONDCOOP_MAX_CLASS) << 1) - 1 == SECONDCOOP_MAX_BARRED,
+               "classes");
 _Static_assert(SECONDCOOP_TURNS(1, 1) == 2 && SECONDCOOP_TURNS(1, 6) == 12, "turns");
 _Static_assert(2 * SECONDCOOP_TURNS(2 + 2, 2 + 1) == 48, "turns");
 _Static_assert(SECONDCOOP_TURNS(4096, 16) == 131072, "turns");
@@ -156,15 +199,16 @@ static void plan_refusals(void)
     REFUSED(SECONDCOOP_BAD_PLACE_COUNT, 0, 0x81, 0x20, 0);
     REFUSED(SECONDCOOP_NOT_REFUSED, 0, 0x80, 0x20, 0);
     REFUSED(SECONDCOOP_BAD_LANE_COUNT, 1, 4, 0x81, 0x80, 0x02);
-    REFUSED(SECONDCOOP_NOT_A_PLACE, 3, 4, 1, 0, 4, 1);
-    REFUSED(SECONDCOOP_BAD_COST, 4, 4, 1, 0, 1, 0xC1, 0x84, 0x3D);
-    REFUSED(SECONDCOOP_BAD_LANE_ORDER, 6, 4, 2, 0, 1, 1, 0, 1, 1);
+    REFUSED(SECONDCOOP_NOT_A_PLACE, 3, 4, 1, 0, 4, 1, 0);
+    REFUSED(SECONDCOOP_BAD_COST, 4, 4, 1, 0, 1, 0xC1, 0x84, 0x3D, 8);
+    REFUSED(SECONDCOOP_BAD_CLASS, 7, 4, 1, 0, 1, 0xC0, 0x84, 0x3D, 8);
+    REFUSED(SECONDCOOP_BAD_LANE_ORDER, 7, 4, 2, 0, 1, 1, 0, 0, 1, 1, 0);
     REFUSED(SECONDCOOP_BYTES_LEFT_OVER, 2, 4, 0, 0);
 #undef REFUSED
 }
 
 /* Job A's floor with one argument that is refused. */
-static void refused_call(const char *name, uint32_t goal, size_t anchor_length,
+static void refused_call(const char *name, uint32_t goal, uint32_t barred, size_t anchor_length,
                          uint32_t second, uint32_t last, uint32_t factor,
                          size_t route_length, size_t work_length, uint64_t number,
                          uint64_t position)
@@ -172,7 +216,7 @@ static void refused_call(const char *name, uint32_t goal, size_t anchor_length,
     const uint32_t anchor[] = {6, second, 3, last}, schedule[] = {factor, 100};
     uint32_t route[4], log[1], work[SECONDCOOP_WORK_WORDS(4, 4)];
     uint64_t figures[SECONDCOOP_PLAN_FIGURES];
-    secondcoop_plan(plan_a, sizeof plan_a, 0, goal, anchor, anchor_length, anchor, 0, 0,
+    secondcoop_plan(plan_a, sizeof plan_a, 0, goal, barred, anchor, anchor_length, anchor, 0, 0,
                     schedule, 2, 9, route, route_length, log, 1, work, work_length, figures);
     expect(name, figures,
            (const uint64_t[]){SECONDCOOP_REFUSED, number, position, 0, 0, 0, 0, 0}, 8);
@@ -180,17 +224,19 @@ static void refused_call(const char *name, uint32_t goal, size_t anchor_length,
 
 static void call_refusals(void)
 {
-    refused_call("start or goal", 4, 4, 5, 0, 100, 4, 29, SECONDCOOP_BAD_START_OR_GOAL, 0);
-    refused_call("tables", 3, 3, 5, 0, 100, 4, 29, SECONDCOOP_BAD_TABLES, 0);
-    refused_call("schedule", 3, 4, 5, 0, SECONDCOOP_MIN_FACTOR - 1, 4, 29,
+    refused_call("goal", 4, 0, 4, 5, 0, 100, 4, 33, SECONDCOOP_BAD_ENDS_OR_BARRED, 0);
+    refused_call("barred", 3, 256, 4, 5, 0, 100, 4, 33, SECONDCOOP_BAD_ENDS_OR_BARRED, 0);
+    refused_call("tables", 3, 0, 3, 5, 0, 100, 4, 33, SECONDCOOP_BAD_TABLES, 0);
+    refused_call("schedule", 3, 0, 4, 5, 0, SECONDCOOP_MIN_FACTOR - 1, 4, 33,
                  SECONDCOOP_BAD_SCHEDULE, 0);
-    refused_call("schedule", 3, 4, 5, 0, SECONDCOOP_MAX_FACTOR + 1, 4, 29,
+    refused_call("schedule", 3, 0, 4, 5, 0, SECONDCOOP_MAX_FACTOR + 1, 4, 33,
                  SECONDCOOP_BAD_SCHEDULE, 0);
-    refused_call("route memory", 3, 4, 5, 0, 100, 3, 29, SECONDCOOP_SHORT_MEMORY, 0);
-    refused_call("work memory", 3, 4, 5, 0, 100, 4, 28, SECONDCOOP_SHORT_MEMORY, 0);
-    refused_call("anchor at goal", 3, 4, 5, 1, 100, 4, 29, SECONDCOOP_ANCHOR_NOT_0_AT_GOAL, 0);
-    /* The anchor's 6 at place 1 is above cost 2 + 3 on lane 2. */
-    refused_call("anchor on lane", 3, 4, 6, 0, 100, 4, 29, SECONDCOOP_ANCHOR_BREAKS_RULE, 2);
+    refused_call("route memory", 3, 0, 4, 5, 0, 100, 3, 33, SECONDCOOP_SHORT_MEMORY, 0);
+    refused_call("work memory", 3, 0, 4, 5, 0, 100, 4, 32, SECONDCOOP_SHORT_MEMORY, 0);
+    refused_call("anchor at goal", 3, 0, 4, 5, 1, 100, 4, 33, SECONDCOOP_ANCHOR_NOT_0_AT_GOAL, 0);
+    /* The anchor's 6 at place 1 is above cost 2 + 3 on lane 2, barred or not. */
+    refused_call("anchor on lane", 3, 0, 4, 6, 0, 100, 4, 33, SECONDCOOP_ANCHOR_BREAKS_RULE, 2);
+    refused_call("anchor on lane", 3, 255, 4, 6, 0, 100, 4, 33, SECONDCOOP_ANCHOR_BREAKS_RULE, 2);
     char printed[32], wanted[32];
     const size_t length = secondcoop_bench_text(plan_a, 0, (uint8_t *)printed, sizeof printed);
     snprintf(wanted, sizeof wanted, "refused %d at 0\n", SECONDCOOP_NOT_A_JOB);
@@ -204,6 +250,7 @@ int main(void)
     plans();
     names();
     planner();
+    barred();
     text();
     plan_refusals();
     call_refusals();

@@ -4,9 +4,9 @@
 
 int main()
 {
-    static const uint8_t plan[] = {3, 1, 0, 2, 5};
-    static const uint8_t job[] = {2, 2, 0, 0, 1, 1, 0, 0, 0, 0};
-    uint32_t tails[1], heads[1], costs[1];
+    static const uint8_t plan[] = {3, 1, 0, 2, 5, 7};
+    static const uint8_t job[] = {2, 2, 0, 0, 1, 0, 1, 0, 0, 0, 0};
+    uint32_t tails[1], heads[1], costs[1], classes[1];
     uint8_t out[SECONDCOOP_PLAN_BYTES(1)];
     uint64_t figures[SECONDCOOP_PLAN_FIGURES];
     int wrong = 0;
@@ -18,15 +18,17 @@ int main()
     wrong += figures[SECONDCOOP_FIRST] != 1;
     secondcoop_check_plan(plan, sizeof plan, figures);
     wrong += figures[SECONDCOOP_FIRST] != 3;
-    secondcoop_read_plan(plan, sizeof plan, tails, 1, heads, 1, costs, 1, figures);
-    wrong += figures[SECONDCOOP_SECOND] != 1;
-    secondcoop_write_plan(3, tails, 1, heads, 1, costs, 1, out, sizeof out, figures);
+    secondcoop_read_plan(plan, sizeof plan, tails, 1, heads, 1, costs, 1, classes, 1, figures);
+    wrong += figures[SECONDCOOP_SECOND] != 1 || classes[0] != SECONDCOOP_MAX_CLASS;
+    secondcoop_write_plan(3, tails, 1, heads, 1, costs, 1, classes, 1, out, sizeof out,
+                          figures);
     wrong += figures[SECONDCOOP_FIRST] != sizeof plan;
     static const uint32_t anchor[3] = {0, 0, 0};
     uint32_t route[3], log[1], work[SECONDCOOP_WORK_WORDS(3, 1)];
     const uint32_t allowance = SECONDCOOP_TURNS(3, SECONDCOOP_HOUSE_ROUNDS);
-    secondcoop_plan(plan, sizeof plan, 0, 2, anchor, 3, anchor, 0, 0, anchor, 0, allowance,
-                    route, 3, log, 1, work, sizeof work / sizeof work[0], figures);
+    secondcoop_plan(plan, sizeof plan, 0, 2, SECONDCOOP_CLASS(6), anchor, 3, anchor, 0, 0,
+                    anchor, 0, allowance, route, 3, log, 1,
+                    work, sizeof work / sizeof work[0], figures);
     wrong += figures[SECONDCOOP_PLAN_ENDING] != SECONDCOOP_ROUTE;
     wrong += figures[SECONDCOOP_PLAN_COST] != 5;
     wrong += secondcoop_bench_text(job, sizeof job, out, sizeof out) != 40;

@@ -4,7 +4,7 @@
 use secondcoop_tests::compare::{Codec, Library, Reference};
 
 /// Plan A of the paper.
-const PLAN_A: [u8; 14] = [4, 4, 0, 1, 1, 0, 2, 4, 1, 2, 2, 1, 3, 3];
+const PLAN_A: [u8; 18] = [4, 4, 0, 1, 1, 0, 0, 2, 4, 0, 1, 2, 2, 0, 1, 3, 3, 0];
 
 fn on_both(test: impl Fn(&dyn Codec)) {
     test(&Library);
@@ -16,7 +16,7 @@ fn no_bytes_are_refusal_1_at_0() {
     on_both(|codec| {
         assert_eq!(codec.check_plan(&[]), [1, 0, 0, 0]);
         assert_eq!(
-            codec.read_plan(&[], &mut [], &mut [], &mut []),
+            codec.read_plan(&[], &mut [], &mut [], &mut [], &mut []),
             [1, 0, 0, 0]
         );
         assert_eq!(codec.read_plan_number(&[], 0), [1, 0, 0, 0]);
@@ -44,77 +44,158 @@ fn a_plan_that_ends_after_v_is_refusal_1_at_1() {
 fn plan_a_is_read_and_written() {
     on_both(|codec| {
         assert_eq!(codec.check_plan(&PLAN_A), [0, 0, 4, 4]);
-        let (mut tails, mut heads, mut costs) = ([9; 4], [9; 4], [9; 4]);
-        let answer = codec.read_plan(&PLAN_A, &mut tails, &mut heads, &mut costs);
+        let mut lists = [[9; 4]; 4];
+        let [tails, heads, costs, classes] = &mut lists;
+        let answer = codec.read_plan(&PLAN_A, tails, heads, costs, classes);
         assert_eq!(answer, [0, 0, 4, 4]);
-        assert_eq!(tails, [0, 0, 1, 2]);
-        assert_eq!(heads, [1, 2, 2, 3]);
-        assert_eq!(costs, [1, 4, 2, 3]);
-        let mut out = [0xEE; 15];
-        let answer = codec.write_plan(4, &tails, &heads, &costs, &mut out);
-        assert_eq!(answer, [0, 0, 14, 0]);
-        assert_eq!(out[..14], PLAN_A);
-        assert_eq!(out[14], 0xEE);
+        assert_eq!(*tails, [0, 0, 1, 2]);
+        assert_eq!(*heads, [1, 2, 2, 3]);
+        assert_eq!(*costs, [1, 4, 2, 3]);
+        assert_eq!(*classes, [0, 0, 0, 0]);
+        let mut out = [0xEE; 19];
+        let answer = codec.write_plan(4, tails, heads, costs, classes, &mut out);
+        assert_eq!(answer, [0, 0, 18, 0]);
+        assert_eq!(out[..18], PLAN_A);
+        assert_eq!(out[18], 0xEE);
     });
 }
 
 #[test]
 fn plan_a_does_not_fit_shorter_memory() {
     on_both(|codec| {
-        for short in 0..3 {
-            let mut lists = [[9u32; 4]; 3];
-            let [tails, heads, costs] = &mut lists;
-            let mut lent = [&mut tails[..], &mut heads[..], &mut costs[..]];
+        for short in 0..4 {
+            let mut lists = [[9u32; 4]; 4];
+            let mut lent = lists.each_mut().map(|list| &mut list[..]);
             let list = std::mem::take(&mut lent[short]);
             lent[short] = &mut list[..3];
-            let [tails, heads, costs] = lent;
-            let answer = codec.read_plan(&PLAN_A, tails, heads, costs);
+            let [tails, heads, costs, classes] = lent;
+            let answer = codec.read_plan(&PLAN_A, tails, heads, costs, classes);
             assert_eq!(answer, [11, 0, 0, 0]);
-            assert_eq!(lists, [[9; 4]; 3]);
+            assert_eq!(lists, [[9; 4]; 4]);
         }
-        let (tails, heads, costs) = ([0, 0, 1, 2], [1, 2, 2, 3], [1, 4, 2, 3]);
-        let mut out = [0xEE; 13];
-        let answer = codec.write_plan(4, &tails, &heads, &costs, &mut out);
+        let mut out = [0xEE; 17];
+        let [tails, heads, costs, classes] = &LISTS_A;
+        let answer = codec.write_plan(4, tails, heads, costs, classes, &mut out);
         assert_eq!(answer, [11, 0, 0, 0]);
-        assert_eq!(out, [0xEE; 13]);
+        assert_eq!(out, [0xEE; 17]);
     });
+}
+
+/// Tails, heads, costs and classes of plan A.
+const LISTS_A: [[u32; 4]; 4] = [[0, 0, 1, 2], [1, 2, 2, 3], [1, 4, 2, 3], [0; 4]];
+
+#[test]
+fn lists_of_unequal_lengths_are_not_written() {
+    on_both(|codec| {
+        for short in 0..4 {
+            let mut lists = LISTS_A.each_ref().map(|list| &list[..]);
+            lists[short] = &lists[short][..3];
+            let [tails, heads, costs, classes] = lists;
+            let mut out = [0xEE; 20];
+            let answer = codec.write_plan(4, tails, heads, costs, classes, &mut out);
+            assert_eq!(answer, [3, 0, 0, 0]);
+            assert_eq!(out, [0xEE; 20]);
+        }
+    });
+}
+
+/// The answer for a plan whose one edge is read into lists of one element,
+/// and what these hold then.
+fn read_one(codec: &dyn Codec, bytes: &[u8]) -> ([u64; 4], [u32; 4]) {
+    let mut lists = [[9]; 4];
+    let [tails, heads, costs, classes] = &mut lists;
+    let answer = codec.read_plan(bytes, tails, heads, costs, classes);
+    (answer, lists.map(|[word]| word))
 }
 
 #[test]
 fn a_cost_of_1_000_000_passes() {
     on_both(|codec| {
-        let bytes = [2, 1, 0, 1, 0xC0, 0x84, 0x3D];
+        let bytes = [2, 1, 0, 1, 0xC0, 0x84, 0x3D, 0];
         assert_eq!(codec.check_plan(&bytes), [0, 0, 2, 1]);
         assert_eq!(codec.read_plan_number(&bytes, 4), [0, 0, 1_000_000, 7]);
-        let (mut tails, mut heads, mut costs) = ([9], [9], [9]);
-        codec.read_plan(&bytes, &mut tails, &mut heads, &mut costs);
-        assert_eq!((tails, heads, costs), ([0], [1], [1_000_000]));
+        let (_, lists) = read_one(codec, &bytes);
+        assert_eq!(lists, [0, 1, 1_000_000, 0]);
     });
 }
 
 #[test]
 fn a_cost_of_1_000_001_is_refusal_5_at_its_first_byte() {
     on_both(|codec| {
-        // The cost stands at offset 4.
-        let bytes = [2, 1, 0, 1, 0xC1, 0x84, 0x3D];
-        assert_eq!(codec.check_plan(&bytes), [5, 4, 0, 0]);
-        assert_eq!(codec.read_plan_number(&bytes, 4), [0, 0, 1_000_001, 7]);
-        let (mut tails, mut heads, mut costs) = ([9], [9], [9]);
-        let answer = codec.read_plan(&bytes, &mut tails, &mut heads, &mut costs);
-        assert_eq!(answer, [5, 4, 0, 0]);
-        assert_eq!((tails, heads, costs), ([9], [9], [9]));
-        // The writer's position is the edge's number.
-        let answer = codec.write_plan(2, &[0, 1], &[1, 0], &[0, 1_000_001], &mut [0; 20]);
-        assert_eq!(answer, [5, 1, 0, 0]);
+        // The cost stands at offset 4; the class after it does not count.
+        for class in [0, 8] {
+            let bytes = [2, 1, 0, 1, 0xC1, 0x84, 0x3D, class];
+            assert_eq!(codec.check_plan(&bytes), [5, 4, 0, 0]);
+            assert_eq!(codec.read_plan_number(&bytes, 4), [0, 0, 1_000_001, 7]);
+            assert_eq!(read_one(codec, &bytes), ([5, 4, 0, 0], [9; 4]));
+            // The writer's position is the edge's number.
+            let (costs, classes) = ([0, 1_000_001], [0, class.into()]);
+            let answer = codec.write_plan(2, &[0, 1], &[1, 0], &costs, &classes, &mut [0; 20]);
+            assert_eq!(answer, [5, 1, 0, 0]);
+        }
+    });
+}
+
+#[test]
+fn a_class_of_7_passes() {
+    on_both(|codec| {
+        for class in 0..=7 {
+            let bytes = [2, 1, 0, 1, 5, class];
+            assert_eq!(codec.check_plan(&bytes), [0, 0, 2, 1]);
+            let lists = [0, 1, 5, class.into()];
+            assert_eq!(read_one(codec, &bytes), ([0, 0, 2, 1], lists));
+            let [tails, heads, costs, classes] = lists.map(|word| [word]);
+            let mut out = [0xEE; 7];
+            let answer = codec.write_plan(2, &tails, &heads, &costs, &classes, &mut out);
+            assert_eq!(answer, [0, 0, 6, 0]);
+            assert_eq!((&out[..6], out[6]), (&bytes[..], 0xEE));
+        }
+    });
+}
+
+#[test]
+fn a_class_above_7_is_refusal_15_at_its_first_byte() {
+    on_both(|codec| {
+        // The first edge's class stands at offset 5, the second's at 9.
+        let good = [2, 2, 0, 1, 5, 7, 1, 0, 5, 7];
+        assert_eq!(codec.check_plan(&good), [0, 0, 2, 2]);
+        for (edge, at) in [(0, 5), (1, 9)] {
+            for (value, groups) in [
+                (8, &[8][..]),
+                (9, &[9]),
+                (127, &[0x7F]),
+                (128, &[0x80, 1]),
+                (2_097_151, &[0xFF, 0xFF, 0x7F]),
+            ] {
+                let mut bytes = good.to_vec();
+                bytes.splice(at..at + 1, groups.iter().copied());
+                assert_eq!(codec.check_plan(&bytes), [15, at as u64, 0, 0]);
+                assert_eq!(read_one(codec, &bytes), ([15, at as u64, 0, 0], [9; 4]));
+                let mut classes = [7; 2];
+                classes[edge] = value;
+                let mut out = [0xEE; 20];
+                let answer = codec.write_plan(2, &[0, 1], &[1, 0], &[5; 2], &classes, &mut out);
+                assert_eq!((answer, out), ([15, edge as u64, 0, 0], [0xEE; 20]));
+            }
+            // A class of bad form is refusal 1 there, and so is none.
+            for groups in [&[0x87, 0][..], &[0x88, 0x80, 0x80, 1], &[]] {
+                let bytes = [&good[..at], groups].concat();
+                assert_eq!(codec.check_plan(&bytes), [1, at as u64, 0, 0]);
+                assert_eq!(read_one(codec, &bytes), ([1, at as u64, 0, 0], [9; 4]));
+            }
+        }
+        // The writer takes any 32-bit number.
+        let answer = codec.write_plan(1, &[0], &[0], &[0], &[u32::MAX], &mut []);
+        assert_eq!(answer, [15, 0, 0, 0]);
     });
 }
 
 #[test]
 fn a_summed_tail_is_refused_at_its_difference() {
     on_both(|codec| {
-        // The second edge's difference 2 sums to tail 3, at offset 5.
-        let bytes = [3, 2, 1, 0, 0, 2, 0, 0];
-        assert_eq!(codec.check_plan(&bytes), [4, 5, 0, 0]);
+        // The second edge's difference 2 sums to tail 3, at offset 6.
+        let bytes = [3, 2, 1, 0, 0, 0, 2, 0, 0, 0];
+        assert_eq!(codec.check_plan(&bytes), [4, 6, 0, 0]);
     });
 }
 
@@ -127,15 +208,20 @@ fn each_number_goes_through_its_rows_before_the_next_is_read() {
         assert_eq!(codec.check_plan(&[0, 0x80, 0]), [2, 0, 0, 0]);
         assert_eq!(codec.check_plan(&[1, 1, 0, 1]), [4, 3, 0, 0]);
         // A head not in range counts before its order.
-        assert_eq!(codec.check_plan(&[2, 2, 0, 1, 0, 0, 2, 0]), [4, 6, 0, 0]);
+        let bytes = [2, 2, 0, 1, 0, 0, 0, 2, 0, 0];
+        assert_eq!(codec.check_plan(&bytes), [4, 7, 0, 0]);
+        // A class above 7 counts before the next edge, and before bytes left
+        // over.
+        let bytes = [2, 2, 0, 1, 0, 8, 0, 2, 0, 0, 0];
+        assert_eq!(codec.check_plan(&bytes), [15, 5, 0, 0]);
         // Bytes left over count before lists too short.
-        let bytes = [2, 1, 0, 1, 0, 0];
+        let bytes = [2, 1, 0, 1, 0, 0, 0];
         assert_eq!(
-            codec.read_plan(&bytes, &mut [], &mut [], &mut []),
-            [7, 5, 0, 0]
+            codec.read_plan(&bytes, &mut [], &mut [], &mut [], &mut []),
+            [7, 6, 0, 0]
         );
         assert_eq!(
-            codec.read_plan(&bytes[..5], &mut [], &mut [], &mut []),
+            codec.read_plan(&bytes[..6], &mut [], &mut [], &mut [], &mut []),
             [11, 0, 0, 0]
         );
     });
@@ -144,29 +230,59 @@ fn each_number_goes_through_its_rows_before_the_next_is_read() {
 #[test]
 fn the_writer_takes_its_refusals_in_order() {
     on_both(|codec| {
-        let write = |vertices, tails: &[u32], heads: &[u32], costs: &[u32], room: usize| {
+        let write = |vertices, lists: [&[u32]; 4], room: usize| {
             let mut out = [0xEE; 64];
-            let answer = codec.write_plan(vertices, tails, heads, costs, &mut out[..room]);
+            let [tails, heads, costs, classes] = lists;
+            let answer = codec.write_plan(vertices, tails, heads, costs, classes, &mut out[..room]);
             let written = answer[2] as usize;
             assert!(out[written..].iter().all(|&byte| byte == 0xEE));
             answer
         };
         let bad = 2_000_000;
-        assert_eq!(write(0, &[bad], &[], &[], 0), [2, 0, 0, 0]);
-        assert_eq!(write(4_097, &[bad], &[], &[], 0), [2, 0, 0, 0]);
-        assert_eq!(write(3, &[bad], &[], &[], 0), [3, 0, 0, 0]);
-        assert_eq!(write(3, &[bad], &[bad], &[bad], 0), [4, 0, 0, 0]);
-        assert_eq!(write(3, &[0], &[3], &[bad], 0), [4, 0, 0, 0]);
-        assert_eq!(write(3, &[1, 0], &[1, 3], &[0, bad], 0), [4, 1, 0, 0]);
-        assert_eq!(write(3, &[1, 0], &[1, 2], &[0, bad], 0), [6, 1, 0, 0]);
-        assert_eq!(write(3, &[1, 1], &[1, 1], &[0, bad], 0), [6, 1, 0, 0]);
-        assert_eq!(write(3, &[1, 1], &[1, 2], &[0, bad], 0), [5, 1, 0, 0]);
+        let unequal: [&[u32]; 4] = [&[bad], &[], &[], &[]];
+        assert_eq!(write(0, unequal, 0), [2, 0, 0, 0]);
+        assert_eq!(write(4_097, unequal, 0), [2, 0, 0, 0]);
+        assert_eq!(write(3, unequal, 0), [3, 0, 0, 0]);
+        assert_eq!(write(3, [&[bad], &[bad], &[bad], &[]], 0), [3, 0, 0, 0]);
+        assert_eq!(write(3, [&[bad], &[bad], &[bad], &[bad]], 0), [4, 0, 0, 0]);
+        assert_eq!(write(3, [&[0], &[3], &[bad], &[bad]], 0), [4, 0, 0, 0]);
+        let (dear, bad_class): (&[u32], &[u32]) = (&[0, bad], &[0, 8]);
+        assert_eq!(
+            write(3, [&[1, 0], &[1, 3], dear, bad_class], 0),
+            [4, 1, 0, 0]
+        );
+        assert_eq!(
+            write(3, [&[1, 0], &[1, 2], dear, bad_class], 0),
+            [6, 1, 0, 0]
+        );
+        assert_eq!(
+            write(3, [&[1, 1], &[1, 1], dear, bad_class], 0),
+            [6, 1, 0, 0]
+        );
+        let (tails, heads): (&[u32], &[u32]) = (&[1, 1], &[1, 2]);
+        assert_eq!(write(3, [tails, heads, dear, bad_class], 0), [5, 1, 0, 0]);
+        assert_eq!(
+            write(3, [tails, heads, &[0, 1_000_001], bad_class], 0),
+            [5, 1, 0, 0]
+        );
+        assert_eq!(
+            write(3, [tails, heads, &[0, 1_000_000], bad_class], 0),
+            [15, 1, 0, 0]
+        );
         // An earlier edge's fault counts first, whatever its number.
-        assert_eq!(write(3, &[1, 9], &[1, 2], &[bad, 0], 0), [5, 0, 0, 0]);
-        assert_eq!(write(3, &[1, 1], &[1, 2], &[0, 0], 7), [11, 0, 0, 0]);
-        assert_eq!(write(3, &[1, 1], &[1, 2], &[0, 0], 8), [0, 0, 8, 0]);
-        assert_eq!(write(1, &[], &[], &[], 1), [11, 0, 0, 0]);
-        assert_eq!(write(1, &[], &[], &[], 2), [0, 0, 2, 0]);
+        assert_eq!(
+            write(3, [&[1, 9], heads, &[bad, 0], &[0, 0]], 0),
+            [5, 0, 0, 0]
+        );
+        assert_eq!(
+            write(3, [&[1, 9], heads, &[0, bad], &[8, 0]], 0),
+            [15, 0, 0, 0]
+        );
+        let good: [&[u32]; 4] = [tails, heads, &[0, 0], &[0, 7]];
+        assert_eq!(write(3, good, 9), [11, 0, 0, 0]);
+        assert_eq!(write(3, good, 10), [0, 0, 10, 0]);
+        assert_eq!(write(1, [&[]; 4], 1), [11, 0, 0, 0]);
+        assert_eq!(write(1, [&[]; 4], 2), [0, 0, 2, 0]);
     });
 }
 

@@ -31,6 +31,14 @@ enum Fault {
     EdgeLimit,
     /// A cost of 1,000,001 passes.
     CostLimit,
+    /// A class of 8 passes.
+    ClassLimit,
+    /// A class above 7 stands at the cost.
+    ClassPosition,
+    /// A class of bad form is refusal 15.
+    ClassForm,
+    /// A class above 7 counts before a cost too large.
+    ClassBeforeCost,
     /// A tail out of range stands at the head.
     TailPosition,
     /// A head out of order is refusal 4.
@@ -43,21 +51,31 @@ enum Fault {
     ListsAtRefusal,
     /// A list longer than M gets one word more.
     ListBeyond,
-    /// The last list's word is wrong.
+    /// The last cost is wrong.
     LastCost,
+    /// The last class is wrong.
+    LastClass,
+    /// Classes that have no room are left out.
+    ShortClasses,
     /// Unequal lists are cut to the shortest.
     UnequalLists,
+    /// Classes that are left out are written as 0.
+    UnequalClasses,
     /// The writer refuses a head out of order as a cost.
     WriterOrder,
     /// The writer's position is one too high.
     WriterPosition,
+    /// The writer passes a class of 8 as 7.
+    WriterClassLimit,
+    /// The writer refuses a class before a cost.
+    WriterClassBeforeCost,
     /// The writer begins to write where it has no room.
     OutputAtRefusal,
     /// The writer clears the byte after the last.
     OutputBeyond,
 }
 
-const FAULTS: [Fault; 22] = [
+const FAULTS: [Fault; 31] = [
     Fault::NotShortest,
     Fault::LastByte,
     Fault::JobNumberOf33Bits,
@@ -68,6 +86,10 @@ const FAULTS: [Fault; 22] = [
     Fault::VertexLimit,
     Fault::EdgeLimit,
     Fault::CostLimit,
+    Fault::ClassLimit,
+    Fault::ClassPosition,
+    Fault::ClassForm,
+    Fault::ClassBeforeCost,
     Fault::TailPosition,
     Fault::HeadOrder,
     Fault::LeftOver,
@@ -75,9 +97,14 @@ const FAULTS: [Fault; 22] = [
     Fault::ListsAtRefusal,
     Fault::ListBeyond,
     Fault::LastCost,
+    Fault::LastClass,
+    Fault::ShortClasses,
     Fault::UnequalLists,
+    Fault::UnequalClasses,
     Fault::WriterOrder,
     Fault::WriterPosition,
+    Fault::WriterClassLimit,
+    Fault::WriterClassBeforeCost,
     Fault::OutputAtRefusal,
     Fault::OutputBeyond,
 ];
@@ -151,6 +178,22 @@ impl Codec for Faulty {
             Fault::CostLimit if number == 5 && bytes[at..].starts_with(&[0xC1, 0x84, 0x3D]) => {
                 changed(at, at + 3, &[0xC0, 0x84, 0x3D])
             }
+            Fault::ClassLimit if number == 15 && bytes[at] == 8 => changed(at, at + 1, &[7]),
+            Fault::ClassPosition if number == 15 => [15, position - 1, 0, 0],
+            Fault::ClassForm if number == 1 => {
+                // Where any class would do, the number is a class.
+                match changed(at, bytes.len(), &[8]) {
+                    [15, other, ..] if other == position => [15, position, 0, 0],
+                    _ => answer,
+                }
+            }
+            Fault::ClassBeforeCost if number == 5 => {
+                let end = Reference.read_plan_number(bytes, at)[3] as usize;
+                match changed(at, end, &[0]) {
+                    [15, other, ..] if other == position + 1 => [15, end as u64, 0, 0],
+                    _ => answer,
+                }
+            }
             Fault::TailPosition if number == 4 => [4, position + 1, 0, 0],
             Fault::HeadOrder if number == 6 => [4, position, 0, 0],
             Fault::LeftOver if number == 7 => Reference.check_plan(&bytes[..at]),
@@ -164,19 +207,17 @@ impl Codec for Faulty {
         tails: &mut [u32],
         heads: &mut [u32],
         costs: &mut [u32],
+        classes: &mut [u32],
     ) -> Figures {
-        let answer = Reference.read_plan(bytes, tails, heads, costs);
+        let answer = Reference.read_plan(bytes, tails, heads, costs, classes);
         let edges = answer[3] as usize;
         match self.0 {
             Fault::ListsBeforeEnd if answer[0] == 7 => {
                 let before = &bytes[..answer[1] as usize];
-                let mut lists = [
-                    vec![0; tails.len()],
-                    vec![0; heads.len()],
-                    vec![0; costs.len()],
-                ];
-                let [tails, heads, costs] = &mut lists;
-                let shorter = Reference.read_plan(before, tails, heads, costs);
+                let mut lists = [tails.len(), heads.len(), costs.len(), classes.len()]
+                    .map(|room| vec![0; room]);
+                let [tails, heads, costs, classes] = &mut lists;
+                let shorter = Reference.read_plan(before, tails, heads, costs, classes);
                 if shorter[0] == 11 {
                     return shorter;
                 }
@@ -192,6 +233,13 @@ impl Codec for Faulty {
                 }
             }
             Fault::LastCost if answer[0] == 0 && edges > 5 => costs[edges - 1] ^= 1 << 16,
+            Fault::LastClass if answer[0] == 0 && edges > 5 => classes[edges - 1] ^= 4,
+            Fault::ShortClasses if answer[0] == 11 => {
+                let mut longer = vec![0; 40_000];
+                let other = Reference.read_plan(bytes, tails, heads, costs, &mut longer);
+                classes.copy_from_slice(&longer[..classes.len()]);
+                return other;
+            }
             _ => {}
         }
         answer
@@ -203,20 +251,30 @@ impl Codec for Faulty {
         tails: &[u32],
         heads: &[u32],
         costs: &[u32],
+        classes: &[u32],
         out: &mut [u8],
     ) -> Figures {
-        let answer = Reference.write_plan(vertices, tails, heads, costs, out);
+        let answer = Reference.write_plan(vertices, tails, heads, costs, classes, out);
         let [number, position, count, _] = answer;
         match self.0 {
             Fault::UnequalLists if number == 3 => {
-                let edges = tails.len().min(heads.len()).min(costs.len());
-                return Reference.write_plan(
-                    vertices,
-                    &tails[..edges],
-                    &heads[..edges],
-                    &costs[..edges],
-                    out,
-                );
+                let lists = [tails, heads, costs, classes];
+                let edges = lists.map(<[u32]>::len).into_iter().min().unwrap_or(0);
+                let [tails, heads, costs, classes] = lists.map(|list| &list[..edges]);
+                return Reference.write_plan(vertices, tails, heads, costs, classes, out);
+            }
+            Fault::UnequalClasses if number == 3 && classes.len() < tails.len() => {
+                let mut classes = classes.to_vec();
+                classes.resize(tails.len(), 0);
+                return Reference.write_plan(vertices, tails, heads, costs, &classes, out);
+            }
+            Fault::WriterClassLimit if number == 15 => {
+                let lower = |&class: &u32| if class == 8 { 7 } else { class };
+                let classes: Vec<u32> = classes.iter().map(lower).collect();
+                return Reference.write_plan(vertices, tails, heads, costs, &classes, out);
+            }
+            Fault::WriterClassBeforeCost if number == 5 && classes[position as usize] > 7 => {
+                return [15, position, 0, 0];
             }
             Fault::WriterOrder if number == 6 && costs[position as usize] > 1_000_000 => {
                 return [5, position, 0, 0];
@@ -255,6 +313,7 @@ fn found(fault: Fault) -> (u64, u64) {
     generate::truncations(25, 50, &mut check);
     generate::random_bytes(26, 3_000, &mut check);
     generate::changed_bytes(27, 3_000, &mut check);
+    generate::damaged_classes(32, 100, &mut check);
     generate::damaged_lists(28, 3_000, &mut check);
     generate::random_lists(29, 3_000, &mut check);
     generate::short_numbers(&mut check);

@@ -46,7 +46,7 @@ static size_t depth(void (*call)(int), int variant)
 
 /* A plan of all places and lanes, as lists and as bytes, eight tables, a
  * schedule of all rounds, and memory for all of them. */
-static uint32_t tails[LANES], heads[LANES], costs[LANES];
+static uint32_t tails[LANES], heads[LANES], costs[LANES], classes[LANES];
 static uint8_t plan[SECONDCOOP_PLAN_BYTES(LANES)];
 static size_t plan_length;
 static uint32_t tables[9 * PLACES], schedule[2 * SECONDCOOP_MAX_ROUNDS];
@@ -62,6 +62,7 @@ static void fill(void)
         tails[lane] = lane / 8;
         heads[lane] = lane % PLACES;
         costs[lane] = lane * 7919 % (SECONDCOOP_MAX_COST + 1);
+        classes[lane] = lane % (SECONDCOOP_MAX_CLASS + 1);
     }
     for (size_t at = PLACES; at < 9 * PLACES; at++)
         tables[at] = (uint32_t)(at * 2654435761u);
@@ -100,7 +101,7 @@ static void write_plan_number(int variant)
 
 static void write_plan(int variant)
 {
-    secondcoop_write_plan(PLACES, tails, LANES, heads, LANES, costs, LANES,
+    secondcoop_write_plan(PLACES, tails, LANES, heads, LANES, costs, LANES, classes, LANES,
                           plan, variant ? 9 : sizeof plan, figures);
     expect(figures[SECONDCOOP_REFUSAL], variant ? SECONDCOOP_SHORT_MEMORY : 0);
     if (!variant)
@@ -116,14 +117,15 @@ static void check_plan(int variant)
 static void read_plan(int variant)
 {
     secondcoop_read_plan(plan, plan_length, tails, LANES, heads, LANES - (variant ? 1 : 0),
-                         costs, LANES, figures);
+                         costs, LANES, classes, LANES, figures);
     expect(figures[SECONDCOOP_REFUSAL], variant ? SECONDCOOP_SHORT_MEMORY : 0);
 }
 
 /* A route over the floor; sixteen rounds that finish at once; no route, since
  * the bytes are those of a plan without lanes; unfinished at once and after
- * some turns; refusals 1, 8, 9, 10, 11, 12, 13. */
-enum { PLAN_CALLS = 12 };
+ * some turns; refusals 1, 8, 9, 10, 11, 12, 13; a route with one class barred,
+ * and no route with all. */
+enum { PLAN_CALLS = 14 };
 
 static void plan_call(int variant)
 {
@@ -132,15 +134,19 @@ static void plan_call(int variant)
         SECONDCOOP_ROUTE, SECONDCOOP_ROUTE, SECONDCOOP_NO_ROUTE,
         SECONDCOOP_UNFINISHED, SECONDCOOP_UNFINISHED, SECONDCOOP_REFUSED,
         SECONDCOOP_REFUSED, SECONDCOOP_REFUSED, SECONDCOOP_REFUSED,
-        SECONDCOOP_REFUSED, SECONDCOOP_REFUSED, SECONDCOOP_REFUSED};
+        SECONDCOOP_REFUSED, SECONDCOOP_REFUSED, SECONDCOOP_REFUSED,
+        SECONDCOOP_ROUTE, SECONDCOOP_NO_ROUTE};
     const uint32_t goal = variant == 1 ? 0 : variant == 6 ? PLACES : PLACES - 1;
+    const uint32_t barred = variant == 12   ? SECONDCOOP_CLASS(5)
+                            : variant == 13 ? SECONDCOOP_MAX_BARRED
+                                            : 0;
     const uint32_t budget = variant == 3 ? 0 : variant == 4 ? 20 : UINT32_MAX;
     tables[0] = variant == 11 ? UINT32_MAX : 0;
     tables[PLACES - 1] = variant == 10 ? 1 : 0;
     schedule[0] = variant == 8 ? 0 : SECONDCOOP_MAX_FACTOR;
     secondcoop_plan(variant == 2 ? no_lanes : plan,
                     variant == 2 ? sizeof no_lanes : plan_length - (variant == 5 ? 1 : 0),
-                    0, goal, tables, PLACES, tables + PLACES, 8 * PLACES,
+                    0, goal, barred, tables, PLACES, tables + PLACES, 8 * PLACES,
                     variant == 7 ? 9 : 8, schedule, 2 * SECONDCOOP_MAX_ROUNDS, budget,
                     route, PLACES - (variant == 9 ? 1 : 0),
                     log_words, sizeof log_words / sizeof *log_words,
@@ -159,19 +165,20 @@ static void bench_text(int variant)
     static const char *const ends[TEXTS] = {"bound 10000\n", "bound 10000\n", "turns 1\n",
                                             "refused 14 at 0\n", "refused 4 at 3\n",
                                             "refused 8 at 0\n"};
-    uint8_t job[] = {14, 4, 4, 0, 1, 1, 0, 2, 4, 1, 2, 2, 1, 3, 3, 0, 3, 100, 16,
+    uint8_t job[] = {18, 4, 4, 0, 1, 1, 0, 0, 2, 4, 0, 1, 2, 2, 0, 1, 3, 3, 0,
+                     0, 3, 0, 100, 16,
                      100, 100, 100, 100, 100, 100, 100, 100, 100, 100, 100, 100,
                      100, 100, 100, 100, 100, 100, 100, 100, 100, 100, 100, 100,
                      100, 100, 100, 100, 100, 100, 100, 100, 1,
                      0, 0, 0, 0, 0, 9, 0, 0};
     if (variant == 1)
-        job[16] = 0;
+        job[20] = 0;
     if (variant == 2)
-        job[17] = 1;
+        job[22] = 1;
     if (variant == 4)
         job[4] = 4;
     if (variant == 5)
-        job[15] = 4;
+        job[19] = 4;
     const size_t length =
         secondcoop_bench_text(job, sizeof job - (variant == 3 ? 1 : 0), text, sizeof text);
     const size_t end = strlen(ends[variant]);
