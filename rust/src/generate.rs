@@ -32,7 +32,7 @@ pub struct Plan {
 /// is met, sometimes of all eight.
 pub fn random_classes(random: &mut Random, edges: usize) -> Vec<u32> {
     let all: Vec<u32> = (0..=MOST_CLASS).collect();
-    let few: Vec<u32> = (0..random.range(1, 3)).map(|_| random.pick(&all)).collect();
+    let few: Vec<u32> = (0..random.range(1, 4)).map(|_| random.pick(&all)).collect();
     let classes = if random.one_in(4) { all } else { few };
     (0..edges).map(|_| random.pick(&classes)).collect()
 }

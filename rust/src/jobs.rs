@@ -195,15 +195,15 @@ pub fn random_sheet(random: &mut Random, plan: &Plan, goal: u32, anchor: &[u32])
 /// edges have, all, or any.
 pub fn random_barred(random: &mut Random, plan: &Plan) -> u32 {
     let mut barred = 0;
-    match random.below(8) {
-        4 | 5 if plan.edges() > 0 => barred = 1 << random.pick(&plan.classes),
-        6 if plan.edges() > 0 => {
+    match random.below(12) {
+        8 | 9 if plan.edges() > 0 => barred = 1 << random.pick(&plan.classes),
+        10 if plan.edges() > 0 => {
             for _ in 0..random.range(2, 4) {
                 barred |= 1 << random.pick(&plan.classes);
             }
         }
-        7 if random.one_in(2) => barred = planner::MOST_BARRED,
-        7 => barred = random.range32(0, planner::MOST_BARRED),
+        11 if random.one_in(3) => barred = planner::MOST_BARRED,
+        11 => barred = random.range32(0, planner::MOST_BARRED),
         _ => {}
     }
     barred
@@ -842,6 +842,18 @@ pub fn every_budget(seed: u64, count: usize, sink: &mut dyn FnMut(&Plan, &Job)) 
         for budget in 0..=last + 2 {
             job.budget = budget;
             sink(&plan, &job);
+        }
+    }
+}
+
+/// Small jobs with every barred number from 0 to 255, and with some above.
+pub fn every_barred(seed: u64, count: usize, sink: &mut dyn FnMut(&Job)) {
+    let mut random = Random::new(seed);
+    for index in 0..count {
+        let (_, mut job) = random_job(&mut random, SHAPES[index % SHAPES.len()]);
+        for barred in (0..=256).chain([257, 511, 512, 65_536, u32::MAX]) {
+            job.barred = barred;
+            sink(&job);
         }
     }
 }

@@ -75,12 +75,7 @@ fn the_text_and_the_call_agree() {
 /// 32,768 bytes are read, 32,769 are not.
 #[test]
 fn the_limit_of_job_bytes() {
-    let plan = secondcoop_tests::generate::Plan {
-        vertices: 256,
-        tails: vec![],
-        heads: vec![],
-        costs: vec![],
-    };
+    let plan = secondcoop_tests::generate::Plan::without_edges(256);
     // Sheets of numbers in five groups: 256 × 8 × 5 bytes.
     let job = jobs::Job::new(
         &plan,

@@ -1,15 +1,16 @@
 //! The paper's cases, on the library and on the second planner, word for
 //! word.
 
+use secondcoop_tests::generate;
 use secondcoop_tests::planner::{Answer, Memory, Request, NONE};
 use secondcoop_tests::planners::{Library, Planner, SecondPlanner};
 
 /// Plan A of the paper.
-const PLAN_A: [u8; 14] = [4, 4, 0, 1, 1, 0, 2, 4, 1, 2, 2, 1, 3, 3];
+const PLAN_A: [u8; 18] = [4, 4, 0, 1, 1, 0, 0, 2, 4, 0, 1, 2, 2, 0, 1, 3, 3, 0];
 /// Job A after the plan.
-const JOB_A_TAIL: [u8; 19] = [
-    0x00, 0x03, 0x64, 0x02, 0xC8, 0x01, 0xC8, 0x01, 0x64, 0x64, 0x01, 0x06, 0x05, 0x03, 0x00, 0x00,
-    0x09, 0x00, 0x00,
+const JOB_A_TAIL: [u8; 20] = [
+    0x00, 0x03, 0x00, 0x64, 0x02, 0xC8, 0x01, 0xC8, 0x01, 0x64, 0x64, 0x01, 0x06, 0x05, 0x03, 0x00,
+    0x00, 0x09, 0x00, 0x00,
 ];
 
 fn on_both(test: impl Fn(&dyn Planner)) {
@@ -18,7 +19,7 @@ fn on_both(test: impl Fn(&dyn Planner)) {
 }
 
 fn job_a_bytes() -> Vec<u8> {
-    let mut bytes = vec![0x0E];
+    let mut bytes = vec![0x12];
     bytes.extend(PLAN_A);
     bytes.extend(JOB_A_TAIL);
     bytes
@@ -29,6 +30,7 @@ const JOB_A: Request = Request {
     bytes: &PLAN_A,
     start: 0,
     goal: 3,
+    barred: 0,
     anchor: &[6, 5, 3, 0],
     guides: &[0, 9, 0, 0],
     guide_count: 1,
@@ -40,13 +42,13 @@ const JOB_A: Request = Request {
 struct Lent {
     route: [u32; 6],
     log: [u32; 6],
-    work: [u32; 31],
+    work: [u32; 35],
 }
 
 const UNTOUCHED: Lent = Lent {
     route: [77; 6],
     log: [78; 6],
-    work: [79; 31],
+    work: [79; 35],
 };
 
 fn plan(planner: &dyn Planner, request: &Request) -> (Answer, Lent) {
@@ -84,6 +86,7 @@ fn job_a_word_for_word() {
                 0, 2, 3, 4, 4, // first edges
                 1, 2, 2, 3, // heads
                 1, 4, 2, 3, // costs
+                0, 0, 0, 0, // classes
                 0, 0, NONE, 0, // vertex 0, its guide mark gone with round one
                 1, 1, 0, 2, // vertex 1, anchor mark
                 3, 3, 1, 1, // vertex 2, guide mark
@@ -130,7 +133,7 @@ fn job_a_with_budget_2() {
         let vertices = [
             0, 0, NONE, 0, 1, NONE, 0, 4, 4, 4, 0, 0, 7, NONE, 2, 4, 79, 79,
         ];
-        assert_eq!(lent.work[13..], vertices);
+        assert_eq!(lent.work[17..], vertices);
     });
 }
 
@@ -144,23 +147,27 @@ fn job_a_unfinished() {
         let vertices = [
             0, 0, NONE, 1, 1, NONE, 0, 4, 4, NONE, 0, 4, NONE, NONE, NONE, 0, 79, 79,
         ];
-        assert_eq!(lent.work[13..], vertices);
+        assert_eq!(lent.work[17..], vertices);
 
         let (answer, lent) = job_a(planner, 0);
         assert_eq!(answer, Answer::Unfinished { turns: 0 });
         assert_eq!(lent.log, [78; 6]);
-        assert_eq!(lent.work[13..17], [0, NONE, NONE, 4]);
+        assert_eq!(lent.work[17..21], [0, NONE, NONE, 4]);
     });
 }
 
 #[test]
 fn no_route() {
     on_both(|planner| {
-        for budget in [1, 2, 100, u32::MAX] {
+        for (budget, barred) in [1, 2, 100, u32::MAX]
+            .into_iter()
+            .flat_map(|budget| (0..=255).map(move |barred| (budget, barred)))
+        {
             let request = Request {
                 bytes: &[2, 0],
                 start: 0,
                 goal: 1,
+                barred,
                 anchor: &[0, 0],
                 guides: &[],
                 guide_count: 0,
@@ -173,7 +180,7 @@ fn no_route() {
             assert_eq!(lent.log, [0, 78, 78, 78, 78, 78]);
             let work = [0, 0, 0, 0, 0, NONE, 2, NONE, NONE, NONE, 0, 79];
             assert_eq!(lent.work[..12], work);
-            assert_eq!(lent.work[12..], [79; 19]);
+            assert_eq!(lent.work[12..], [79; 23]);
         }
     });
 }
@@ -208,7 +215,90 @@ fn start_is_goal() {
             assert_eq!(answer, expected);
             assert_eq!(lent.route, [1, NONE, NONE, NONE, 77, 77]);
             assert_eq!(lent.log, [78; 6]);
-            assert_eq!(lent.work[17..21], [0, NONE, NONE, 4]);
+            assert_eq!(lent.work[21..25], [0, NONE, NONE, 4]);
+        }
+    });
+}
+
+/// Plan A with its edges of these classes.
+fn plan_a_of(classes: [u8; 4]) -> [u8; 18] {
+    let mut bytes = PLAN_A;
+    for (edge, class) in classes.into_iter().enumerate() {
+        bytes[5 + 4 * edge] = class;
+    }
+    bytes
+}
+
+/// Without the edge 0 → 1 the dearer route is the cheapest; the edge still
+/// stands in work memory.
+#[test]
+fn a_barred_class_is_not_used() {
+    on_both(|planner| {
+        let bytes = plan_a_of([1, 0, 0, 0]);
+        let request = Request {
+            bytes: &bytes,
+            barred: 0b10,
+            ..JOB_A
+        };
+        let (answer, lent) = plan(planner, &request);
+        let expected = Answer::Route {
+            cost: 7,
+            length: 3,
+            rounds: 2,
+            turns: 2,
+            bound: 10_000,
+        };
+        assert_eq!(answer, expected);
+        assert_eq!(lent.route, [0, 2, 3, NONE, 77, 77]);
+        assert_eq!(lent.log, [65_536, 65_538, 78, 78, 78, 78]);
+        let work = [
+            0, 2, 3, 4, 4, // first edges
+            1, 2, 2, 3, // heads
+            1, 4, 2, 3, // costs
+            1, 0, 0, 0, // classes
+            0, 0, NONE, 0, // vertex 0
+            NONE, NONE, NONE, 0, // vertex 1, not reached
+            4, 4, 0, 0, // vertex 2
+            7, NONE, 2, 4, // vertex 3, open
+            79, 79,
+        ];
+        assert_eq!(lent.work, work);
+        // Where another class is barred, all is as in job A.
+        for barred in [0, 1 << 2, 1 << 7, 0b1111_1100] {
+            let (answer, lent) = plan(planner, &Request { barred, ..request });
+            assert_eq!(answer, job_a(planner, 100).0);
+            assert_eq!(lent.work[13..17], [1, 0, 0, 0]);
+        }
+    });
+}
+
+#[test]
+fn no_route_where_every_edge_is_barred() {
+    on_both(|planner| {
+        for (classes, barred) in [
+            ([0; 4], 1),
+            ([0; 4], 255),
+            ([7; 4], 128),
+            ([3, 4, 5, 6], 0b0111_1000),
+            ([3, 4, 5, 6], 255),
+        ] {
+            let bytes = plan_a_of(classes);
+            for guide_count in [0, 1] {
+                let request = Request {
+                    bytes: &bytes,
+                    barred,
+                    guides: &JOB_A.guides[..4 * guide_count],
+                    guide_count: guide_count as u32,
+                    ..JOB_A
+                };
+                let (answer, lent) = plan(planner, &request);
+                assert_eq!(answer, Answer::NoRoute { turns: 1 });
+                assert_eq!(lent.route, [77; 6]);
+                let first = 65_536 * guide_count as u32;
+                assert_eq!(lent.log, [first, 78, 78, 78, 78, 78]);
+                assert_eq!(lent.work[13..17], classes.map(u32::from));
+                assert_eq!(lent.work[21..33], [NONE, NONE, NONE, 0].repeat(3));
+            }
         }
     });
 }
@@ -242,6 +332,7 @@ fn plan_bytes_are_refused() {
                 bytes,
                 start: 9,
                 goal: 9,
+                barred: 256,
                 anchor: &[],
                 guides: &[],
                 guide_count: 9,
@@ -253,8 +344,19 @@ fn plan_bytes_are_refused() {
         assert_eq!(refused(&[]), (1, 0));
         assert_eq!(refused(&[0x80, 0x00]), (1, 0));
         assert_eq!(refused(&[0x04]), (1, 1));
-        assert_eq!(refused(&[2, 1, 0, 1, 0xC1, 0x84, 0x3D]), (5, 4));
-        assert_eq!(refused(&[2, 1, 0, 1, 0xC0, 0x84, 0x3D]), (8, 0));
+        assert_eq!(refused(&[2, 1, 0, 1, 0xC1, 0x84, 0x3D, 8]), (5, 4));
+        assert_eq!(refused(&[2, 1, 0, 1, 0xC0, 0x84, 0x3D, 8]), (15, 7));
+        assert_eq!(refused(&[2, 1, 0, 1, 0xC0, 0x84, 0x3D, 0x87, 0]), (1, 7));
+        assert_eq!(refused(&[2, 1, 0, 1, 0xC0, 0x84, 0x3D]), (1, 7));
+        assert_eq!(refused(&[2, 1, 0, 1, 0xC0, 0x84, 0x3D, 7]), (8, 0));
+        // A class above 7 at each edge, at its first byte.
+        for edge in 0..4 {
+            for class in [8, 9, 127] {
+                let mut classes = [7; 4];
+                classes[edge] = class;
+                assert_eq!(refused(&plan_a_of(classes)), (15, 5 + 4 * edge));
+            }
+        }
     });
 }
 
@@ -262,7 +364,7 @@ fn plan_bytes_are_refused() {
 fn a_cost_of_1_000_000_is_planned() {
     on_both(|planner| {
         let request = Request {
-            bytes: &[2, 1, 0, 1, 0xC0, 0x84, 0x3D],
+            bytes: &[2, 1, 0, 1, 0xC0, 0x84, 0x3D, 0],
             goal: 1,
             anchor: &[1_000_000, 0],
             guides: &[],
@@ -285,10 +387,65 @@ fn a_cost_of_1_000_000_is_planned() {
 #[test]
 fn the_anchor_table_is_checked() {
     on_both(|planner| {
-        let refused = |anchor: &[u32]| refused(planner, &Request { anchor, ..JOB_A }, 4, 29);
+        let refused = |anchor: &[u32]| refused(planner, &Request { anchor, ..JOB_A }, 4, 33);
         assert_eq!(refused(&[7, 5, 3, 0]), (13, 0));
         assert_eq!(refused(&[6, 5, 3, 1]), (12, 0));
         assert_eq!(refused(&[6, 5, 3, 0]), (0, 0));
+    });
+}
+
+/// The anchor table keeps its rule on barred edges too.
+#[test]
+fn the_anchor_table_is_checked_on_barred_edges() {
+    on_both(|planner| {
+        let bytes = plan_a_of([1, 0, 0, 2]);
+        for barred in [0, 0b10, 0b110, 255] {
+            let refused = |anchor: &[u32]| {
+                let request = Request {
+                    bytes: &bytes,
+                    barred,
+                    anchor,
+                    ..JOB_A
+                };
+                refused(planner, &request, 4, 33)
+            };
+            assert_eq!(refused(&[7, 5, 3, 0]), (13, 0));
+            assert_eq!(refused(&[4, 5, 4, 0]), (13, 3));
+            assert_eq!(refused(&[6, 5, 3, 0]), (0, 0));
+        }
+    });
+}
+
+/// Barred numbers go from 0 to 255, and a greater one counts before tables
+/// that are wrong.
+#[test]
+fn a_barred_number_above_255_is_refused() {
+    on_both(|planner| {
+        let refused = |barred: u32, guide_count: u32| {
+            let request = Request {
+                barred,
+                guide_count,
+                ..JOB_A
+            };
+            refused(planner, &request, 4, 33)
+        };
+        for barred in 0..=255 {
+            assert_eq!(refused(barred, 1), (0, 0));
+            assert_eq!(refused(barred, 9), (9, 0));
+        }
+        for barred in [
+            256,
+            257,
+            511,
+            512,
+            1 << 16,
+            1 << 31,
+            u32::MAX - 255,
+            u32::MAX,
+        ] {
+            assert_eq!(refused(barred, 1), (8, 0));
+            assert_eq!(refused(barred, 9), (8, 0));
+        }
     });
 }
 
@@ -326,17 +483,17 @@ fn each_refusal_of_the_call_in_order() {
         assert_eq!(refused((0, 3, bad, &[], 0, &[99, 100], 0, 0)), (10, 0));
         assert_eq!(refused((0, 3, bad, &[], 0, &[100, 10_001], 0, 0)), (10, 0));
         assert_eq!(refused((0, 3, bad, &[], 0, &[100; 34], 0, 0)), (10, 0));
-        assert_eq!(refused((0, 3, bad, &[], 0, &[100; 32], 3, 29)), (11, 0));
-        assert_eq!(refused((0, 3, bad, &[], 0, &[], 4, 28)), (11, 0));
-        assert_eq!(refused((0, 3, bad, &[], 0, &[], 4, 29)), (12, 0));
+        assert_eq!(refused((0, 3, bad, &[], 0, &[100; 32], 3, 33)), (11, 0));
+        assert_eq!(refused((0, 3, bad, &[], 0, &[], 4, 32)), (11, 0));
+        assert_eq!(refused((0, 3, bad, &[], 0, &[], 4, 33)), (12, 0));
         let steep: &[u32] = &[7, 5, 3, 0];
-        assert_eq!(refused((0, 3, steep, &[], 0, &[], 4, 29)), (13, 0));
+        assert_eq!(refused((0, 3, steep, &[], 0, &[], 4, 33)), (13, 0));
         let steep: &[u32] = &[6, 6, 4, 0];
-        assert_eq!(refused((0, 3, steep, &[], 0, &[], 4, 29)), (13, 3));
+        assert_eq!(refused((0, 3, steep, &[], 0, &[], 4, 33)), (13, 3));
         let steep: &[u32] = &[5, NONE, NONE, 0];
-        assert_eq!(refused((0, 3, steep, &[], 0, &[], 4, 29)), (13, 3));
-        assert_eq!(refused((0, 3, good, &[0; 32], 8, &[], 4, 29)), (0, 0));
-        assert_eq!(refused((0, 3, good, &[], 0, &[], 4, 29)), (0, 0));
+        assert_eq!(refused((0, 3, steep, &[], 0, &[], 4, 33)), (13, 3));
+        assert_eq!(refused((0, 3, good, &[0; 32], 8, &[], 4, 33)), (0, 0));
+        assert_eq!(refused((0, 3, good, &[], 0, &[], 4, 33)), (0, 0));
     });
 }
 
@@ -373,7 +530,7 @@ fn the_bench_program_with_other_budgets() {
     on_both(|planner| {
         let with_budget = |budget: u8| {
             let mut bytes = job_a_bytes();
-            bytes[17] = budget;
+            bytes[22] = budget;
             printed(planner, &bytes)
         };
         let text = "turn 1 table 1 place 0\n\
@@ -391,12 +548,16 @@ fn the_bench_program_with_other_budgets() {
 
 #[test]
 fn the_bench_program_without_a_route() {
-    let bytes = [2, 2, 0, 0, 1, 1, 0, 0, 0, 0];
     on_both(|planner| {
-        assert_eq!(
-            printed(planner, &bytes),
-            "turn 1 table 0 place 0\nno route turns 1\n"
-        );
+        for barred in 0..=255u8 {
+            let mut bytes = vec![2, 2, 0, 0, 1];
+            generate::push_number(&mut bytes, barred.into());
+            bytes.extend([1, 0, 0, 0, 0]);
+            assert_eq!(
+                printed(planner, &bytes),
+                "turn 1 table 0 place 0\nno route turns 1\n"
+            );
+        }
     });
 }
 
@@ -417,28 +578,83 @@ fn the_bench_program_refuses() {
         // Positions are those inside the plan.
         assert_eq!(changed(1, 0), refused(2, 0));
         assert_eq!(changed(3, 4), refused(4, 2));
-        assert_eq!(changed(2, 3), refused(7, 11));
+        assert_eq!(changed(2, 3), refused(7, 14));
         // A plan fault comes before tables that are short, but not before a
         // number of bad form up to the guide count.
         let mut short = job.clone();
-        short.truncate(30);
+        short.truncate(35);
         assert_eq!(printed(planner, &short), refused(14, 0));
         short[1] = 0;
         assert_eq!(printed(planner, &short), refused(2, 0));
-        short.truncate(24);
+        short.truncate(29);
         assert_eq!(printed(planner, &short), refused(14, 0));
         // A start that is no vertex, a schedule out of range, the anchor's
         // rows.
-        assert_eq!(changed(15, 4), refused(8, 0));
-        assert_eq!(changed(16, 4), refused(8, 0));
-        assert_eq!(changed(23, 99), refused(10, 0));
-        assert_eq!(changed(26, 7), refused(13, 0));
-        assert_eq!(changed(29, 1), refused(12, 0));
+        assert_eq!(changed(19, 4), refused(8, 0));
+        assert_eq!(changed(20, 4), refused(8, 0));
+        assert_eq!(changed(28, 99), refused(10, 0));
+        assert_eq!(changed(31, 7), refused(13, 0));
+        assert_eq!(changed(34, 1), refused(12, 0));
+        // Classes, at their offsets in the plan.
+        for edge in 0..4 {
+            assert_eq!(changed(6 + 4 * edge, 8), refused(15, 5 + 4 * edge as u32));
+        }
         // Bytes left over, counts too large.
         let mut longer = job.clone();
         longer.push(0);
         assert_eq!(printed(planner, &longer), refused(14, 0));
-        assert_eq!(changed(18, 17), refused(14, 0));
-        assert_eq!(changed(25, 9), refused(14, 0));
+        assert_eq!(changed(23, 17), refused(14, 0));
+        assert_eq!(changed(30, 9), refused(14, 0));
+    });
+}
+
+/// The barred number stands after the goal: of bad form or missing it is
+/// refusal 14, above 255 refusal 8.
+#[test]
+fn the_bench_program_reads_a_barred_number() {
+    on_both(|planner| {
+        let with = |groups: &[u8]| {
+            let mut bytes = job_a_bytes();
+            bytes.splice(21..22, groups.iter().copied());
+            printed(planner, &bytes)
+        };
+        let (whole, no_route) = (with(&[0]), "turn 1 table 1 place 0\nno route turns 1\n");
+        assert!(whole.ends_with("end cost 6 rounds 2 turns 4 bound 10000\n"));
+        assert_eq!(with(&[1]), no_route);
+        assert_eq!(with(&[2]), whole);
+        assert_eq!(with(&[0xFE, 1]), whole);
+        assert_eq!(with(&[0xFF, 1]), no_route);
+        for above in [&[0x80, 2][..], &[0xFF, 0xFF, 0xFF, 0xFF, 0x0F]] {
+            assert_eq!(with(above), "refused 8 at 0\n");
+        }
+        for bad in [
+            &[0x80, 0][..],
+            &[0xFF, 0xFF, 0xFF, 0xFF, 0x1F],
+            &[0x80, 0x80, 0x80, 0x80, 0x80, 1],
+        ] {
+            assert_eq!(with(bad), "refused 14 at 0\n");
+        }
+        // Nothing after the goal, and a number that is cut.
+        let job = job_a_bytes();
+        assert_eq!(printed(planner, &job[..21]), "refused 14 at 0\n");
+        let cut = [&job[..21], &[0x80]].concat();
+        assert_eq!(printed(planner, &cut), "refused 14 at 0\n");
+        // Without it the allowance is read in its place, and a factor as the
+        // count of rounds.
+        assert_eq!(with(&[]), "refused 14 at 0\n");
+    });
+}
+
+/// Job A on plan A with class 1 on the edge 0 → 1, class 1 barred.
+#[test]
+fn the_bench_program_keeps_off_a_barred_class() {
+    let mut bytes = job_a_bytes();
+    (bytes[6], bytes[21]) = (1, 2);
+    on_both(|planner| {
+        assert_eq!(
+            printed(planner, &bytes),
+            "turn 1 table 1 place 0\nturn 2 table 1 place 2\nroute 0 2 3\n\
+             end cost 7 rounds 2 turns 2 bound 10000\n"
+        );
     });
 }

@@ -100,12 +100,29 @@ fn every_budget_is_spent_alike() {
 #[test]
 fn damaged_jobs_are_refused_alike() {
     let mut comparison = Comparison::new(&Library, &SecondPlanner);
-    jobs::damaged_jobs(seed(73), 26_000, &mut |job, known| {
+    jobs::damaged_jobs(seed(73), 28_000, &mut |job, known| {
         comparison.job(job, Some(known));
     });
     comparison.report("damaged_jobs_are_refused_alike");
-    let each: Vec<(usize, u64)> = (1..=13).map(|number| (number, 800)).collect();
+    let each = jobs::CALL_REFUSALS.map(|number| (number as usize, 800));
     met(&comparison.job_kinds, &each);
+}
+
+/// Small jobs with every barred number, and some above.
+#[test]
+fn every_barred_number_is_taken_alike() {
+    let mut comparison = Comparison::new(&Library, &SecondPlanner);
+    let mut events = Events::default();
+    jobs::every_barred(seed(77), 60, &mut |job| {
+        comparison.job(job, None);
+        events.count(job);
+        comparison.text(&job.bench_bytes(), None);
+    });
+    comparison.report("every_barred_number_is_taken_alike");
+    let ends = [(ROUTE, 1_000), (NO_ROUTE, 1_000), (8, 200)];
+    met(&comparison.job_kinds, &ends);
+    met(&comparison.text_kinds, &ends);
+    assert!(events.barred_cheaper >= 200 && events.barred_only >= 200);
 }
 
 #[test]
@@ -113,9 +130,9 @@ fn wild_jobs_are_answered_alike() {
     let mut comparison = Comparison::new(&Library, &SecondPlanner);
     jobs::wild_jobs(seed(74), 40_000, &mut |job| comparison.job(job, None));
     comparison.report("wild_jobs_are_answered_alike");
-    let mut each: Vec<(usize, u64)> = (1..=13)
-        .map(|number| (number, if number == 3 { 0 } else { 50 }))
-        .collect();
+    let mut each: Vec<(usize, u64)> = jobs::CALL_REFUSALS
+        .map(|number| (number as usize, if number == 3 { 0 } else { 50 }))
+        .into();
     each.extend([(ROUTE, 500), (NO_ROUTE, 500), (UNFINISHED, 500)]);
     met(&comparison.job_kinds, &each);
 }
@@ -157,7 +174,7 @@ fn texts_are_printed_alike() {
     if wanted < JOBS {
         return;
     }
-    let mut each: Vec<(usize, u64)> = (1..=14)
+    let mut each: Vec<(usize, u64)> = (1..NO_ROUTE)
         .filter(|number| ![9, 11].contains(number))
         .map(|number| (number, 300))
         .collect();

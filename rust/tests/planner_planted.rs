@@ -8,6 +8,7 @@ use secondcoop_tests::jobs::{self, Job};
 use secondcoop_tests::planner::{self, Answer, Fault, Figures, Memory, Request, FAULTS, NONE};
 use secondcoop_tests::planners::{write_text, Comparison, FaultyPlanner, Planner, SecondPlanner};
 use secondcoop_tests::reference;
+use secondcoop_tests::text::TextJob;
 
 /// What is wrong with a call or with the printed text.
 #[derive(Clone, Copy, Debug, PartialEq, Eq)]
@@ -30,6 +31,14 @@ enum Border {
     AnchorBeforeMemory,
     /// The goal may be V.
     GoalLimit,
+    /// Barred numbers above 255 pass; their upper bits are left aside.
+    BarredLimit,
+    /// 256 passes as 0.
+    BarredOneMore,
+    /// The barred number is left aside.
+    BarsNothing,
+    /// The tables are looked at before the barred number.
+    BarredAfterTables,
     /// Nine guides pass; the last is left aside.
     NineGuides,
     /// More numbers in the guide sheets than V each pass.
@@ -44,6 +53,8 @@ enum Border {
     RisingW2,
     /// Work memory one word short passes.
     WorkLimit,
+    /// Work memory of 5V+1+2M words passes.
+    WorkWithoutClasses,
     /// Route memory one word short passes.
     RouteLimit,
     /// The anchor's number at the goal is not looked at.
@@ -68,6 +79,10 @@ enum Border {
     LogBeyond,
     /// The last of the first edge numbers is not written.
     FirstEdges,
+    /// Classes and costs change places in work memory.
+    SwappedClasses,
+    /// Barred edges have no class in work memory.
+    BarredClasses,
     /// Guide and anchor mark change places.
     SwappedMarks,
     /// A vertex never expanded has 0 as its cost when last expanded.
@@ -100,9 +115,11 @@ enum Border {
     JobLeftOver,
     /// 32,769 bytes pass.
     JobLimit,
+    /// A barred number above 255 is no job for the bench program.
+    JobBarred,
 }
 
-const BORDER: [Border; 43] = [
+const BORDER: [Border; 51] = [
     Border::UnusedFigure,
     Border::LengthInEdges,
     Border::SwappedRefusal,
@@ -111,6 +128,10 @@ const BORDER: [Border; 43] = [
     Border::ScheduleFirst,
     Border::AnchorBeforeMemory,
     Border::GoalLimit,
+    Border::BarredLimit,
+    Border::BarredOneMore,
+    Border::BarsNothing,
+    Border::BarredAfterTables,
     Border::NineGuides,
     Border::LongerGuides,
     Border::SeventeenRounds,
@@ -118,6 +139,7 @@ const BORDER: [Border; 43] = [
     Border::FactorLimit,
     Border::RisingW2,
     Border::WorkLimit,
+    Border::WorkWithoutClasses,
     Border::RouteLimit,
     Border::GoalNumber,
     Border::RuleStrict,
@@ -130,6 +152,8 @@ const BORDER: [Border; 43] = [
     Border::LogLast,
     Border::LogBeyond,
     Border::FirstEdges,
+    Border::SwappedClasses,
+    Border::BarredClasses,
     Border::SwappedMarks,
     Border::NeverExpanded,
     Border::StartPredecessor,
@@ -146,6 +170,7 @@ const BORDER: [Border; 43] = [
     Border::TablesLast,
     Border::JobLeftOver,
     Border::JobLimit,
+    Border::JobBarred,
 ];
 
 struct Faulty(Border);
@@ -154,18 +179,32 @@ fn lend<'a>(route: &'a mut [u32], log: &'a mut [u32], work: &'a mut [u32]) -> Me
     Memory { route, log, work }
 }
 
+/// A call whose work memory is short, as if it had so many words.
+fn with_longer_work(request: &Request, memory: Memory, words: usize) -> Answer {
+    let Memory { route, log, work } = memory;
+    let mut longer = work.to_vec();
+    longer.resize(words, 0);
+    let answer = planner::plan(request, lend(route, log, &mut longer));
+    work.copy_from_slice(&longer[..work.len()]);
+    answer
+}
+
 impl Faulty {
     /// The call with a request in which a fault is repaired, so that it
     /// passes.
     fn repaired(&self, request: &Request, memory: Memory) -> Option<Answer> {
         let (vertices, edges) = reference::check_plan(request.bytes).ok()?;
-        let needed = 5 * vertices as usize + 1 + 2 * edges as usize;
+        let needed = planner::work_words(vertices as usize, edges as usize);
+        let without_classes = needed - edges as usize;
         let factors = request.schedule;
         let room = (memory.route.len(), memory.work.len());
         let mut list = Vec::new();
         let mut other = *request;
         match self.0 {
             Border::GoalLimit if request.goal == vertices => other.goal = vertices - 1,
+            Border::BarredLimit => other.barred &= 255,
+            Border::BarredOneMore if request.barred == 256 => other.barred = 0,
+            Border::BarsNothing => other.barred = 0,
             Border::NineGuides if request.guide_count == 9 => {
                 other.guide_count = 8;
                 other.guides = request.guides.get(..8 * vertices as usize)?;
@@ -198,15 +237,10 @@ impl Faulty {
                 other.anchor = &list;
             }
             Border::WorkLimit if room.1 == needed - 1 => {
-                let mut work = memory.work.to_vec();
-                work.push(0);
-                let lent = Memory {
-                    work: &mut work,
-                    ..memory
-                };
-                let answer = planner::plan(request, lent);
-                memory.work.copy_from_slice(&work[..needed - 1]);
-                return Some(answer);
+                return Some(with_longer_work(request, memory, needed));
+            }
+            Border::WorkWithoutClasses if (without_classes..needed).contains(&room.1) => {
+                return Some(with_longer_work(request, memory, needed));
             }
             Border::RouteLimit if room.0 == vertices as usize - 1 => {
                 let mut route = memory.route.to_vec();
@@ -236,14 +270,14 @@ impl Faulty {
             return answer;
         };
         let (vertices, edges) = (vertices as usize, edges as usize);
-        let short = room.0 < vertices || room.1 < 5 * vertices + 1 + 2 * edges;
+        let short = room.0 < vertices || room.1 < planner::work_words(vertices, edges);
         let anchor_at = |vertex: u32| request.anchor.get(vertex as usize).copied();
         let first_edge = |broken: &dyn Fn(u32, u32, u32) -> bool| {
             let mut first = None;
-            let _ = reference::walk_plan(request.bytes, |edge, tail, head, cost| {
-                let numbers = (anchor_at(tail), anchor_at(head));
+            let _ = reference::walk_plan(request.bytes, |number, edge| {
+                let numbers = (anchor_at(edge.tail), anchor_at(edge.head));
                 if let (None, (Some(tail), Some(head))) = (first, numbers) {
-                    first = broken(tail, head, cost).then_some(edge);
+                    first = broken(tail, head, edge.cost).then_some(number);
                 }
             });
             first
@@ -251,6 +285,13 @@ impl Faulty {
         match (self.0, number) {
             (Border::RulePosition, 13) => refused(13, 0),
             (Border::MemoryFirst, 9 | 10) if short => refused(11, 0),
+            (Border::BarredAfterTables, 8) if request.anchor.len() != vertices => {
+                let ends = [request.start, request.goal];
+                match ends.iter().all(|&end| (end as usize) < vertices) {
+                    true => refused(9, 0),
+                    false => answer,
+                }
+            }
             (Border::ScheduleFirst, 8) if request.schedule.len() % 2 == 1 => refused(10, 0),
             (Border::AnchorBeforeMemory, 11) if anchor_at(request.goal) != Some(0) => {
                 refused(12, 0)
@@ -290,7 +331,8 @@ impl Planner for Faulty {
         let mut figures = answer.figures();
         let [ending, number, position, _, length, _, turns, _] = figures;
         let (length, turns) = (length as usize, turns as usize);
-        let places = vertices + 1 + 2 * edges;
+        let places = vertices + 1 + 3 * edges;
+        let (costs, classes) = (vertices + 1 + edges, vertices + 1 + 2 * edges);
         match (self.0, ending) {
             (Border::UnusedFigure, 1 | 2) => figures[7] = 10_000,
             (Border::LengthInEdges, 0) => figures[4] -= 1,
@@ -316,6 +358,17 @@ impl Planner for Faulty {
                 }
             }
             (Border::FirstEdges, 0..=2) => work[vertices] = before.2[vertices],
+            (Border::SwappedClasses, 0..=2) => {
+                let (front, behind) = work.split_at_mut(classes);
+                front[costs..].swap_with_slice(&mut behind[..edges]);
+            }
+            (Border::BarredClasses, 0..=2) => {
+                for class in &mut work[classes..places] {
+                    if request.barred >> *class & 1 == 1 {
+                        *class = NONE;
+                    }
+                }
+            }
             (Border::SwappedMarks, 0..=2) => {
                 for marks in work[places..][..4 * vertices].iter_mut().skip(3).step_by(4) {
                     *marks = *marks & 12 | (*marks & 1) << 1 | (*marks & 2) >> 1;
@@ -378,6 +431,12 @@ impl Planner for Faulty {
             }
             Border::JobLimit if job.len() == 32_769 => {
                 printed = bench_text::bench_text(&job[..32_768]);
+            }
+            Border::JobBarred if printed == "refused 8 at 0\n" => {
+                let lines = TextJob::of_bytes(job).lines();
+                if lines.is_ok_and(|lines| lines.barred.says > 255) {
+                    printed = "refused 14 at 0\n".into();
+                }
             }
             _ => {}
         }

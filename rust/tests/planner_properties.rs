@@ -2,7 +2,7 @@
 //! properties that an independent Dijkstra search decides. Costs and
 //! expansions come from the second planner's events.
 
-use secondcoop_tests::dijkstra;
+use secondcoop_tests::dijkstra::{self, is_permitted};
 use secondcoop_tests::events::Events;
 use secondcoop_tests::generate::Plan;
 use secondcoop_tests::guarded::GUARD;
@@ -10,16 +10,18 @@ use secondcoop_tests::jobs::{self, Job};
 use secondcoop_tests::planner::{self, Answer, Event, NONE};
 use secondcoop_tests::planners::{self, Library, Planner, SecondPlanner};
 use secondcoop_tests::random::Random;
+use secondcoop_tests::reference::LAST_REFUSAL;
 
 const BOTH: [&dyn Planner; 2] = [&Library, &SecondPlanner];
 
-/// The sum of a walk's edges; each must be an edge of the plan.
-fn walk_cost(plan: &Plan, walk: &[u32]) -> u64 {
+/// The sum of a walk's edges; each must be a permitted edge of the plan.
+fn walk_cost(plan: &Plan, barred: u32, walk: &[u32]) -> u64 {
     walk.windows(2)
         .map(|pair| {
             let edge = (0..plan.edges())
                 .find(|&edge| plan.tails[edge] == pair[0] && plan.heads[edge] == pair[1])
                 .expect("a route follows edges");
+            assert!(is_permitted(barred, plan.classes[edge]), "a barred edge");
             u64::from(plan.costs[edge])
         })
         .sum()
@@ -40,7 +42,7 @@ fn check(planner: &dyn Planner, plan: &Plan, job: &Job, met: &mut Met) {
     let outcome = planners::run(planner, job, 5);
     let (answer, events) = job.events();
     assert_eq!(outcome.figures, answer.figures());
-    let least = dijkstra::distances_from(plan, job.start)[job.goal as usize];
+    let least = dijkstra::distances_from(plan, job.start, job.barred)[job.goal as usize];
     let vertices = plan.vertices as usize;
     let [route_before, log_before, work_before] = planners::lent_memory(job, 5);
     let untouched = route_before.all;
@@ -57,7 +59,7 @@ fn check(planner: &dyn Planner, plan: &Plan, job: &Job, met: &mut Met) {
             let route = &outcome.route[GUARD..GUARD + vertices];
             let (walk, rest) = route.split_at(length as usize);
             assert_eq!((walk[0], walk[walk.len() - 1]), (job.start, job.goal));
-            assert_eq!(walk_cost(plan, walk), u64::from(cost));
+            assert_eq!(walk_cost(plan, job.barred, walk), u64::from(cost));
             assert!(rest.iter().all(|&word| word == NONE));
             assert_eq!(
                 outcome.route[GUARD + vertices..],
@@ -152,7 +154,7 @@ fn check(planner: &dyn Planner, plan: &Plan, job: &Job, met: &mut Met) {
     }
 
     // Work memory against the plan and the expansions.
-    let needed = 5 * vertices + 1 + 2 * plan.edges();
+    let needed = 5 * vertices + 1 + 3 * plan.edges();
     let work = &outcome.work[GUARD..GUARD + needed];
     for (index, &word) in outcome.work.iter().enumerate() {
         if !(GUARD..GUARD + needed).contains(&index) {
@@ -165,8 +167,10 @@ fn check(planner: &dyn Planner, plan: &Plan, job: &Job, met: &mut Met) {
     }
     let (heads, rest) = work[vertices + 1..].split_at(plan.edges());
     let (costs, rest) = rest.split_at(plan.edges());
+    let (classes, rest) = rest.split_at(plan.edges());
     assert_eq!((heads, costs), (&plan.heads[..], &plan.costs[..]));
-    let least = dijkstra::distances_from(plan, job.start);
+    assert_eq!(classes, plan.classes);
+    let least = dijkstra::distances_from(plan, job.start, job.barred);
     for (vertex, words) in rest.chunks_exact(4).enumerate() {
         let &[g, expanded, predecessor, marks] = words else {
             unreachable!()
@@ -183,7 +187,7 @@ fn check(planner: &dyn Planner, plan: &Plan, job: &Job, met: &mut Met) {
         assert_eq!(predecessor == NONE, vertex as u32 == job.start);
         if predecessor != NONE {
             let tail = &rest[4 * predecessor as usize..][..4];
-            let cost = walk_cost(plan, &[predecessor, vertex as u32]);
+            let cost = walk_cost(plan, job.barred, &[predecessor, vertex as u32]);
             assert!(u64::from(tail[1]) + cost <= u64::from(g));
         }
     }
@@ -221,7 +225,8 @@ fn no_route_exactly_where_there_is_none() {
         for index in 0..8_000 {
             let shape = jobs::SHAPES[index % jobs::SHAPES.len()];
             let (plan, job) = jobs::random_job(&mut random, shape);
-            let reached = dijkstra::distances_from(&plan, job.start)[job.goal as usize].is_some();
+            let walks = dijkstra::distances_from(&plan, job.start, job.barred);
+            let reached = walks[job.goal as usize].is_some();
             match planners::run(planner, &job, 6).answer() {
                 Answer::Route { .. } => assert!(reached),
                 Answer::NoRoute { .. } => assert!(!reached),
@@ -233,11 +238,69 @@ fn no_route_exactly_where_there_is_none() {
     }
 }
 
+/// Every barred number on small plans: over permitted edges the cheapest
+/// route, or none, and the others change nothing.
+#[test]
+fn every_barred_number() {
+    for planner in BOTH {
+        let mut random = Random::new(46);
+        let mut met = Met::default();
+        let mut dearer = 0;
+        for index in 0..150 {
+            let shape = jobs::SHAPES[index % jobs::SHAPES.len()];
+            let (plan, mut job) = jobs::random_job(&mut random, shape);
+            job.schedule = match index % 3 {
+                0 => vec![],
+                1 => vec![100, 100],
+                _ => vec![1_000, 300, 100, 100],
+            };
+            let whole = dijkstra::distances_from(&plan, job.start, 0)[job.goal as usize];
+            for barred in 0..=planner::MOST_BARRED {
+                job.barred = barred;
+                check(planner, &plan, &job, &mut met);
+                let walks = dijkstra::distances_from(&plan, job.start, barred);
+                dearer += u64::from(walks[job.goal as usize] > whole);
+            }
+        }
+        // The last round of each is exact, so every route is the cheapest.
+        assert_eq!(met.routes, met.optimal_rounds);
+        assert_eq!(met.unfinished, 0);
+        assert!(met.routes >= 5_000, "{} routes", met.routes);
+        assert!(met.no_routes >= 5_000, "{} without", met.no_routes);
+        assert!(dearer >= 1_000, "{dearer} dearer");
+    }
+}
+
+/// Work memory of 5V+1+3M words is enough, and one word less is not.
+#[test]
+fn work_memory_is_exact() {
+    for planner in BOTH {
+        let mut random = Random::new(47);
+        for index in 0..500 {
+            let shape = jobs::SHAPES[index % jobs::SHAPES.len()];
+            let (plan, mut job) = jobs::random_job(&mut random, shape);
+            job.work_room = 5 * plan.vertices as usize + 1 + 3 * plan.edges();
+            let answer = planners::run(planner, &job, 3).answer();
+            assert!(!matches!(answer, Answer::Refused { .. }), "{answer:?}");
+            job.work_room -= 1;
+            let outcome = planners::run(planner, &job, 3);
+            let refused = Answer::Refused {
+                number: 11,
+                position: 0,
+            };
+            assert_eq!(outcome.answer(), refused);
+            let [route, log, work] = planners::lent_memory(&job, 3);
+            assert_eq!(outcome.route, route.all);
+            assert_eq!((outcome.log, outcome.work), (log.all, work.all));
+        }
+    }
+}
+
 #[test]
 fn damaged_jobs_are_refused() {
     for planner in BOTH {
-        let mut counts = [0; 14];
-        jobs::damaged_jobs(43, 26_000, &mut |job, known| {
+        let mut counts = [0; LAST_REFUSAL as usize + 1];
+        jobs::damaged_jobs(43, 28_000, &mut |job, known| {
             let outcome = planners::run(planner, job, 9);
             assert_eq!(outcome.figures, known.figures(), "{job:?}");
             let [route, log, work] = planners::lent_memory(job, 9);
@@ -248,7 +311,8 @@ fn damaged_jobs_are_refused() {
                 counts[number as usize] += 1;
             }
         });
-        for (number, &count) in counts.iter().enumerate().skip(1) {
+        for number in jobs::CALL_REFUSALS {
+            let count = counts[number as usize];
             assert!(count >= 800, "refusal {number}: {count}");
         }
     }
