@@ -466,9 +466,9 @@ struct Seeded {
 impl Seeded {
     fn new() -> Seeded {
         let (mut list, mut texts) = (Vec::new(), Vec::new());
-        jobs::valid_jobs(51, 3_000, &mut |_, job| list.push(job.clone()));
-        jobs::damaged_jobs(52, 6_500, &mut |job, _| list.push(job.clone()));
-        jobs::bench_jobs(53, 1_000, &mut |bytes, _| texts.push(bytes.to_vec()));
+        jobs::valid_jobs(51, 9_000, &mut |_, job| list.push(job.clone()));
+        jobs::damaged_jobs(52, 21_000, &mut |job, _| list.push(job.clone()));
+        jobs::bench_jobs(53, 2_000, &mut |bytes, _| texts.push(bytes.to_vec()));
         Seeded { jobs: list, texts }
     }
 
@@ -541,9 +541,9 @@ fn nothing_is_found_where_nothing_is_planted() {
     for planner in [&SecondPlanner as &dyn Planner, &Faulty(Border::None)] {
         let (differing, jobs) = seeded.differing_jobs(planner);
         assert_eq!(differing, 0);
-        assert!(jobs > 15_000, "{jobs} jobs");
+        assert!(jobs > 50_000, "{jobs} jobs");
         let (differing, texts) = seeded.differing_texts(planner);
         assert_eq!(differing, 0);
-        assert!(texts > 4_000, "{texts} texts");
+        assert!(texts > 8_000, "{texts} texts");
     }
 }
