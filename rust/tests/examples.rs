@@ -37,7 +37,7 @@ fn read_text(name: &str, form: &str) -> String {
 
 #[test]
 fn all_are_there() {
-    let mut wanted: Vec<String> = [1, 2, 3, 4, 5, 6, 7, 8, 10, 12, 13, 14]
+    let mut wanted: Vec<String> = [1, 2, 3, 4, 5, 6, 7, 8, 10, 12, 13, 14, 15]
         .map(|number| format!("refusal-{number:02}"))
         .into();
     let floors = [
@@ -47,6 +47,8 @@ fn all_are_there() {
         "start-is-goal",
         "cut-round-two",
         "held",
+        "ramp",
+        "ramp-barred",
     ];
     wanted.extend(floors.map(String::from));
     wanted.sort();
@@ -84,6 +86,29 @@ fn the_expected_text_is_printed() {
             assert_eq!(remarks(&job, Taker::Bench)[0].refusal, number);
         }
     }
+}
+
+/// The two jobs on a floor with a ramp differ in the barred number alone, and
+/// in their routes.
+#[test]
+fn a_barred_ramp_is_not_used() {
+    let text = |name| TextJob::parse(&read_text(name, "txt")).expect("a text form");
+    let (open, barred) = (text("ramp").to_string(), text("ramp-barred").to_string());
+    assert_eq!(open.replace("barred 0", "barred 2"), barred);
+    let route = |name| {
+        let printed = read_text(name, "out");
+        let line = printed.lines().find(|line| line.starts_with("route "));
+        line.expect("a route").to_string()
+    };
+    assert_eq!(route("ramp"), "route 0 1 2 3");
+    assert_eq!(route("ramp-barred"), "route 0 4 5 3");
+}
+
+/// The bench program's own job is job A.
+#[test]
+fn the_bench_programs_job_is_job_a() {
+    let own = examples().join("../crates/bench/stdin");
+    assert_eq!(fs::read(own).expect("a job"), read("job-a", "job"));
 }
 
 /// The tool on the files: bytes, hexadecimal pairs, text, what is wrong.

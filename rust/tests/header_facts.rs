@@ -13,7 +13,7 @@ use secondcoop_tests::generate;
 use secondcoop_tests::jobs::{self, Job};
 use secondcoop_tests::planner::{self, Answer, HOUSE_SCHEDULE};
 use secondcoop_tests::planners::{self, Library};
-use secondcoop_tests::reference::{MOST_COST, MOST_EDGES, MOST_VERTICES};
+use secondcoop_tests::reference::{MOST_CLASS, MOST_COST, MOST_EDGES, MOST_VERTICES};
 
 fn read(path: &str) -> String {
     let path = Path::new(env!("CARGO_MANIFEST_DIR")).join("..").join(path);
@@ -47,6 +47,8 @@ fn numbers_are_those_of_the_second_planner() {
         ("MAX_PLACES", u64::from(MOST_VERTICES)),
         ("MAX_LANES", u64::from(MOST_EDGES)),
         ("MAX_COST", u64::from(MOST_COST)),
+        ("MAX_CLASS", u64::from(MOST_CLASS)),
+        ("MAX_BARRED", u64::from(planner::MOST_BARRED)),
         ("HOUSE_ROUNDS", HOUSE_SCHEDULE.len() as u64 / 2),
         ("NONE", u64::from(planner::NONE)),
         ("FIGURES", ffi::Figures::default().len() as u64),
@@ -55,6 +57,8 @@ fn numbers_are_those_of_the_second_planner() {
         ("NO_ROUTE", 1),
         ("UNFINISHED", 2),
         ("REFUSED", 3),
+        ("BAD_ENDS_OR_BARRED", 8),
+        ("BAD_CLASS", 15),
     ] {
         assert_eq!(header.get(name), Some(&number), "{name}");
     }
@@ -71,7 +75,7 @@ fn the_table_has_its_rows_in_order() {
             .and_then(|number| number.trim().parse().ok())
     };
     let rows: Vec<u32> = table.lines().filter_map(row).collect();
-    assert_eq!(rows, [1, 2, 3, 4, 6, 5, 7, 8, 9, 10, 11, 12, 13, 14]);
+    assert_eq!(rows, [1, 2, 3, 4, 6, 5, 15, 7, 8, 9, 10, 11, 12, 13, 14]);
 }
 
 /// What the limits let pass, and what is one more is refused.
@@ -79,20 +83,16 @@ fn the_table_has_its_rows_in_order() {
 fn limits_of_a_call_are_exact() {
     let header = numbers();
     let number = |name: &str| header[name] as u32;
-    let refusal = |guides: u32, schedule: Vec<u32>| {
-        let plan = generate::Plan {
-            vertices: 1,
-            tails: vec![],
-            heads: vec![],
-            costs: vec![],
-        };
-        let sheets = vec![0; guides as usize];
-        let job = Job::new(&plan, 0, 0, vec![0], sheets, guides, schedule, 9);
-        match planners::run(&Library, &job, 0).answer() {
-            Answer::Refused { number, .. } => number,
-            _ => 0,
-        }
+    let refusal_of = |job: &Job| match planners::run(&Library, job, 0).answer() {
+        Answer::Refused { number, .. } => number,
+        _ => 0,
     };
+    let job = |guides: u32, schedule: Vec<u32>| {
+        let plan = generate::Plan::without_edges(1);
+        let sheets = vec![0; guides as usize];
+        Job::new(&plan, 0, 0, vec![0], sheets, guides, schedule, 9)
+    };
+    let refusal = |guides: u32, schedule: Vec<u32>| refusal_of(&job(guides, schedule));
     let (guides, rounds) = (number("MAX_GUIDES"), number("MAX_ROUNDS") as usize);
     assert_eq!([guides, guides + 1].map(|n| refusal(n, vec![])), [0, 9]);
     let schedules = [rounds, rounds + 1].map(|n| refusal(0, vec![100; 2 * n]));
@@ -100,6 +100,12 @@ fn limits_of_a_call_are_exact() {
     let (least, most) = (number("MIN_FACTOR"), number("MAX_FACTOR"));
     let factors = [least - 1, least, most, most + 1].map(|n| refusal(0, vec![n; 2]));
     assert_eq!(factors, [10, 0, 0, 10]);
+    let barred = number("MAX_BARRED");
+    let numbers = [0, barred, barred + 1].map(|barred| {
+        let job = job(0, vec![]);
+        refusal_of(&Job { barred, ..job })
+    });
+    assert_eq!(numbers, [0, 0, 8]);
 }
 
 /// 2·V turns for the first round, 2·V times the rounds for all.
@@ -164,11 +170,11 @@ fn several_threads_may_call() {
             ffi::read_job_number(&job.bytes, 0),
         ];
         let [_, _, vertices, edges] = ffi::check_plan(&job.bytes);
-        let mut lists = [(); 3].map(|()| vec![0; edges as usize]);
-        let [tails, heads, costs] = &mut lists;
-        let read = ffi::read_plan(&job.bytes, tails, heads, costs);
+        let mut lists = [(); 4].map(|()| vec![0; edges as usize]);
+        let [tails, heads, costs, classes] = &mut lists;
+        let read = ffi::read_plan(&job.bytes, tails, heads, costs, classes);
         let mut out = vec![0; job.bytes.len()];
-        let written = ffi::write_plan(vertices as u32, tails, heads, costs, &mut out);
+        let written = ffi::write_plan(vertices as u32, tails, heads, costs, classes, &mut out);
         assert_eq!(out, job.bytes);
         let number = ffi::write_plan_number(&mut out, 0, vertices as u32);
         let text = planners::run_text(&Library, &job.bench_bytes(), 5_000, 0);

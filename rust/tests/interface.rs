@@ -236,6 +236,14 @@ fn a_change_in_the_header_is_found() {
             "uint32_t start, uint32_t goal",
             "uint32_t goal, uint32_t start",
         ),
+        (
+            "uint32_t goal, uint32_t barred",
+            "uint32_t barred, uint32_t goal",
+        ),
+        (
+            "uint32_t *classes, size_t classes_length,",
+            "uint32_t *classes,",
+        ),
         ("uint32_t budget", "uint64_t budget"),
         ("const uint32_t *anchor", "uint32_t *anchor"),
         (
@@ -265,6 +273,8 @@ fn a_change_in_the_rust_declarations_is_found() {
             "start: u32,\n        goal: u32",
             "goal: u32,\n        start: u32",
         ),
+        ("        barred: u32,\n", ""),
+        ("classes: *const u32", "classes: *mut u32"),
         ("budget: u32", "budget: u64"),
         ("anchor: *const u32", "anchor: *mut u32"),
         (") -> usize;", ");"),

@@ -2,8 +2,9 @@
 //! line that is wrong.
 
 use secondcoop_tests::bench_text;
+use secondcoop_tests::generate::push_number;
 use secondcoop_tests::jobs;
-use secondcoop_tests::planners::{kind_of_text, KINDS};
+use secondcoop_tests::planners::{is_refusal, kind_of_text, KINDS};
 use secondcoop_tests::random::Random;
 use secondcoop_tests::refusals::{remarks, Taker};
 use secondcoop_tests::text::{begins, pairs, pairs_text, Begins, PlanLines, TextJob};
@@ -12,20 +13,21 @@ use secondcoop_tests::text::{begins, pairs, pairs_text, Begins, PlanLines, TextJ
 const JOB_A: &str = "\
 # Job A
 places 4
-lane 0 1 1
-lane 0 2 4
-lane 1 2 2
-lane 2 3 3
+lane 0 1 1 0
+lane 0 2 4 0
+lane 1 2 2 0
+lane 2 3 3 0
 start 0
 goal 3
+barred 0
 allowance 100
 round 200 200
 round 100 100
 anchor 6 5 3 0
 guide 0 9 0 0
 ";
-const JOB_A_PAIRS: &str = "0E 04 04 00 01 01 00 02 04 01 02 02 01 03 03 00 03 64 02 C8 01 C8 01 \
-                           64 64 01 06 05 03 00 00 09 00 00";
+const JOB_A_PAIRS: &str = "12 04 04 00 01 01 00 00 02 04 00 01 02 02 00 01 03 03 00 00 03 00 64 \
+                           02 C8 01 C8 01 64 64 01 06 05 03 00 00 09 00 00";
 
 #[test]
 fn job_a() {
@@ -41,6 +43,42 @@ fn job_a() {
     );
 }
 
+/// A class and a barred number that are left out are 0; where they stand they
+/// are said.
+#[test]
+fn classes_and_barred_numbers() {
+    let old = JOB_A
+        .replace(" 0\nlane", "\nlane")
+        .replace("3 3 0\n", "3 3\n");
+    let old = old.replace("barred 0\n", "");
+    assert_eq!(
+        old.matches("lane 0 2 4\nlane 1 2 2\nlane 2 3 3\nstart")
+            .count(),
+        1
+    );
+    let job = TextJob::parse(&old).unwrap();
+    assert_eq!(job.bytes(), pairs(JOB_A_PAIRS).unwrap());
+    assert_eq!(format!("# Job A\n{job}"), JOB_A);
+    for (class, barred) in [(0, 255), (7, 128), (8, 256), (300, u32::MAX)] {
+        let text = JOB_A
+            .replace("lane 0 1 1 0", &format!("lane 0 1 1 {class}"))
+            .replace("barred 0", &format!("barred {barred}"));
+        let job = TextJob::parse(&text).unwrap();
+        assert_eq!(format!("# Job A\n{job}"), text);
+        let again = TextJob::of_bytes(&job.bytes());
+        assert_eq!(again.to_string(), job.to_string());
+        let mut bytes = pairs(JOB_A_PAIRS).unwrap();
+        let mut number = Vec::new();
+        push_number(&mut number, barred);
+        bytes.splice(21..22, number);
+        let mut number = Vec::new();
+        push_number(&mut number, class);
+        bytes[0] += number.len() as u8 - 1;
+        bytes.splice(6..7, number);
+        assert_eq!(job.bytes(), bytes);
+    }
+}
+
 /// Every job's bytes have a text form that gives them back, and its remarks
 /// say what the bench program prints.
 fn round_trip(bytes: &[u8]) -> usize {
@@ -52,7 +90,7 @@ fn round_trip(bytes: &[u8]) -> usize {
     let remarks = remarks(&job, Taker::Bench);
     match remarks.first() {
         Some(first) => assert_eq!(first.refusal as usize, kind, "{remarks:?}: {text}"),
-        None => assert!(!(1..=14).contains(&kind), "refusal {kind}: {text}"),
+        None => assert!(!is_refusal(kind), "refusal {kind}: {text}"),
     }
     // A remark about a line of the text names it.
     for remark in &remarks {
@@ -107,7 +145,7 @@ fn pairs_are_read_and_printed() {
         let word = text.split(' ').next().unwrap();
         let words = format!(
             "line 1: '{word}' is neither the first word of a line (places, lane, start, goal, \
-             allowance, round, anchor, guide) nor a hexadecimal pair such as 0E; pairs stand apart"
+             barred, allowance, round, anchor, guide) nor a hexadecimal pair such as 0E; pairs stand apart"
         );
         assert_eq!(begins(text), Begins::Neither(words), "{text}");
     }
@@ -155,6 +193,7 @@ fn a_line_that_bytes_cannot_say_is_told() {
             "lane 0 1 3000000",
             "line 3: cost 3000000 is above 1000000",
         ),
+        (3, "lane 0 1 1 3000000", "line 3: class 3000000 is above 7"),
         (
             6,
             "lane 3000000 3 3",
@@ -168,13 +207,33 @@ fn a_line_that_bytes_cannot_say_is_told() {
         (
             3,
             "lane 0 1",
-            "line 3: 'lane' takes 3 numbers, and 2 stand there",
+            "line 3: 'lane' takes 3 or 4 numbers, and 2 stand there",
+        ),
+        (
+            3,
+            "lane 0 1 1 0 0",
+            "line 3: 'lane' takes 3 or 4 numbers, and 5 stand there",
+        ),
+        (
+            9,
+            "barred 1 2",
+            "line 9: 'barred' takes 1 number, and 2 stand there",
+        ),
+        (
+            9,
+            "barred 1\nbarred 2",
+            "line 10: 'barred' stands there a second time",
+        ),
+        (
+            9,
+            "barred 4294967296",
+            "line 9: '4294967296' is not a number from 0 to 4294967295",
         ),
         (
             3,
             "lanes 0 1 1",
-            "line 3: 'lanes' begins no line; a line is places, lane, start, goal, allowance, \
-             round, anchor, guide",
+            "line 3: 'lanes' begins no line; a line is places, lane, start, goal, barred, \
+             allowance, round, anchor, guide",
         ),
         (
             3,
@@ -182,9 +241,9 @@ fn a_line_that_bytes_cannot_say_is_told() {
             "line 3: 'Lane' begins no line; 'lane' does, in small letters",
         ),
         (
-            12,
+            13,
             "anchor 6 5\n3 0",
-            "line 13: '3' begins no line; a table stands on one line",
+            "line 14: '3' begins no line; a table stands on one line",
         ),
         (
             8,
@@ -192,9 +251,9 @@ fn a_line_that_bytes_cannot_say_is_told() {
             "line 8: '\"3\"' is not a number from 0 to 4294967295",
         ),
         (
-            13,
+            14,
             "guides 0 9 0 0",
-            "line 13: 'guides' takes 1 number, and 4 stand there; the line of a guide sheet is \
+            "line 14: 'guides' takes 1 number, and 4 stand there; the line of a guide sheet is \
              'guide'",
         ),
         (
@@ -210,47 +269,47 @@ fn a_line_that_bytes_cannot_say_is_told() {
         ),
         (7, "", "there is no line 'start PLACE'"),
         (8, "", "there is no line 'goal PLACE'"),
-        (9, "", "there is no line 'allowance TURNS'"),
-        (
-            9,
-            "allowance 4294967296",
-            "line 9: '4294967296' is not a number from 0 to 4294967295",
-        ),
+        (10, "", "there is no line 'allowance TURNS'"),
         (
             10,
+            "allowance 4294967296",
+            "line 10: '4294967296' is not a number from 0 to 4294967295",
+        ),
+        (
+            11,
             "round 200",
-            "line 10: 'round' takes 2 numbers, and 1 stands there",
+            "line 11: 'round' takes 2 numbers, and 1 stands there",
         ),
-        (12, "", "there is no line 'anchor NUMBERS'"),
+        (13, "", "there is no line 'anchor NUMBERS'"),
         (
-            13,
+            14,
             "guide 0 9 0",
-            "line 13: guide 1 has 3 numbers, and the plan has 4 places",
+            "line 14: guide 1 has 3 numbers, and the plan has 4 places",
         ),
         (
-            12,
+            13,
             "anchor 6 5 3",
-            "line 12: the anchor table has 3 numbers, and the plan has 4 places",
+            "line 13: the anchor table has 3 numbers, and the plan has 4 places",
         ),
         (
-            12,
+            13,
             "anchor 0",
-            "line 12: the anchor table has 1 number, and the plan has 4 places",
+            "line 13: the anchor table has 1 number, and the plan has 4 places",
         ),
         (
-            13,
+            14,
             "guide 0 9 0 0\nguide 0 9 0 0 0",
-            "line 14: guide 2 has 5 numbers, and the plan has 4 places",
+            "line 15: guide 2 has 5 numbers, and the plan has 4 places",
         ),
         (
-            13,
+            14,
             "tables 00 00",
-            "line 13: 'guides' and 'tables' stand in place of 'anchor' and 'guide'",
+            "line 14: 'guides' and 'tables' stand in place of 'anchor' and 'guide'",
         ),
         (
-            13,
+            14,
             "bytes 00",
-            "line 13: 'bytes' stands in place of all other lines",
+            "line 14: 'bytes' stands in place of all other lines",
         ),
     ] {
         assert_eq!(wrong(&with(line, other)), words);
@@ -291,6 +350,24 @@ fn a_line_that_the_bench_program_refuses_is_told() {
             "lane 0 1 1000001",
             "line 3: cost 1000001 is above 1000000 (refusal 5)",
         ),
+        (4, "lane 0 2 4 8", "line 4: class 8 is above 7 (refusal 15)"),
+        (
+            4,
+            "lane 0 2 1000001 9",
+            "line 4: cost 1000001 is above 1000000 (refusal 5); line 4: class 9 is above 7 \
+             (refusal 15)",
+        ),
+        (
+            9,
+            "barred 256",
+            "line 9: barred 256 is above 255; it has bit k for class k, classes 0 to 7 (refusal 8)",
+        ),
+        (
+            9,
+            "barred 4294967295",
+            "line 9: barred 4294967295 is above 255; it has bit k for class k, classes 0 to 7 \
+             (refusal 8)",
+        ),
         (
             5,
             "lane 1 1 2\nlane 1 1 2",
@@ -308,22 +385,22 @@ fn a_line_that_the_bench_program_refuses_is_told() {
             "line 7: start 4 is not a place; places are 0 to 3 (refusal 8)",
         ),
         (
-            10,
-            "round 99 200",
-            "line 10: W1 99 is not from 100 to 10000 (refusal 10)",
-        ),
-        (
             11,
+            "round 99 200",
+            "line 11: W1 99 is not from 100 to 10000 (refusal 10)",
+        ),
+        (
+            12,
             "round 200 201",
-            "line 11: W2 rises from 200 to 201 (refusal 10)",
+            "line 12: W2 rises from 200 to 201 (refusal 10)",
         ),
         (
-            12,
+            13,
             "anchor 6 5 3 1",
-            "line 12: the anchor table has 1 at the goal 3, not 0 (refusal 12)",
+            "line 13: the anchor table has 1 at the goal 3, not 0 (refusal 12)",
         ),
         (
-            12,
+            13,
             "anchor 7 5 3 0",
             "line 3: on lane 0, counted from 0, the anchor table has 7 at tail 0, above cost 1 \
              + 5 at head 1 (refusal 13)",
@@ -331,7 +408,7 @@ fn a_line_that_the_bench_program_refuses_is_told() {
         (
             2,
             "places 5",
-            "line 12: the anchor table and 1 guide have 4 numbers each, and the plan has 5 places \
+            "line 13: the anchor table and 1 guide have 4 numbers each, and the plan has 5 places \
              (refusal 14)",
         ),
         (
@@ -349,8 +426,8 @@ fn a_line_that_the_bench_program_refuses_is_told() {
     }
     let many = "round 100 100\n".repeat(16);
     assert_eq!(
-        remarks(11, &many),
-        "line 26: there are 17 rounds, over 16 (refusal 14)"
+        remarks(12, &many),
+        "line 27: there are 17 rounds, over 16 (refusal 14)"
     );
 }
 
@@ -367,8 +444,17 @@ fn bytes_that_the_bench_program_refuses_are_told() {
     let with = |more: &[u8]| [&whole[..], more].concat();
     for (bytes, expected) in [
         (
-            whole[..16].to_vec(),
-            "the bytes end before the goal is whole, after 16 bytes (refusal 14)",
+            whole[..20].to_vec(),
+            "the bytes end before the goal is whole, after 20 bytes (refusal 14)",
+        ),
+        (
+            whole[..21].to_vec(),
+            "the bytes end before the barred number is whole, after 21 bytes (refusal 14)",
+        ),
+        (
+            vec![1, 0, 0, 0, 0x80, 0],
+            "at byte 4, counted from 0, the barred number is over 32 bits or not in its shortest \
+             form (refusal 14)",
         ),
         (
             whole[..9].to_vec(),
@@ -381,17 +467,17 @@ fn bytes_that_the_bench_program_refuses_are_told() {
         ),
         (
             whole[..whole.len() - 1].to_vec(),
-            "line 12: the tables have 7 numbers; an anchor table and 1 guide for 4 places take 8 \
+            "line 13: the tables have 7 numbers; an anchor table and 1 guide for 4 places take 8 \
              (refusal 14)",
         ),
         (
             with(&[0, 0]),
-            "line 12: the tables have 10 numbers; an anchor table and 1 guide for 4 places take \
+            "line 13: the tables have 10 numbers; an anchor table and 1 guide for 4 places take \
              8 (refusal 14)",
         ),
         (
             with(&[0x80]),
-            "line 12: in the tables the bytes end before a table's number is whole, after 9 \
+            "line 13: in the tables the bytes end before a table's number is whole, after 9 \
              bytes (refusal 14)",
         ),
     ] {

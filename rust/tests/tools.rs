@@ -13,6 +13,7 @@ use secondcoop_tests::input::Input;
 use secondcoop_tests::jobs;
 use secondcoop_tests::planners::SecondPlanner;
 use secondcoop_tests::random::Random;
+use secondcoop_tests::reference::LAST_REFUSAL;
 use secondcoop_tests::run;
 use secondcoop_tests::text::TextJob;
 
@@ -81,7 +82,7 @@ fn left(status: i32, out: &str, err: &str) -> Left {
 #[test]
 fn the_line_of_the_wrong_length_is_blamed() {
     let text = with("job-a.txt", "anchor 6 5 3 0", "anchor 6 5 3");
-    let words = "standard input: line 13: the anchor table has 3 numbers, and the plan has 4 \
+    let words = "standard input: line 14: the anchor table has 3 numbers, and the plan has 4 \
                  places\n";
     for command in ["check", "run", "print", "bytes"] {
         assert_eq!(job(&[command], &text), left(4, "", words));
@@ -110,7 +111,7 @@ fn a_comment_in_latin_1_is_a_comment() {
     // Outside a comment its line is told.
     let text = [b"places 4\nl\xE4ne 0 1 1".as_slice()].concat();
     let words = "standard input: line 2: 'l\u{e4}ne' begins no line; a line is places, lane, \
-                 start, goal, allowance, round, anchor, guide\n";
+                 start, goal, barred, allowance, round, anchor, guide\n";
     assert_eq!(job(&["check"], text), left(4, "", words));
 }
 
@@ -132,7 +133,7 @@ fn a_wrong_pair_is_told() {
     ] {
         let words = format!(
             "standard input: line 2: '{word}' is neither the first word of a line (places, lane, \
-             start, goal, allowance, round, anchor, guide) nor a hexadecimal pair such as 0E; \
+             start, goal, barred, allowance, round, anchor, guide) nor a hexadecimal pair such as 0E; \
              pairs stand apart\n"
         );
         let text = format!("# a comment\n{word} 04 places\n");
@@ -198,14 +199,16 @@ fn line_ends_and_stray_characters() {
 }
 
 /// A job whose bytes look like a comment and a line is planned: its plan has
-/// 35 bytes, and its guide sheet a newline and the letters of a line's word.
+/// 35 bytes, one cost taking two, and its guide sheet a newline and the
+/// letters of a line's word.
 #[test]
 fn a_job_that_looks_like_a_text() {
     let floor = generate::Plan {
         vertices: 20,
-        tails: vec![0; 11],
-        heads: vec![0, 1, 2, 3, 4, 5, 6, 7, 8, 11, 12],
-        costs: vec![1; 11],
+        tails: vec![0; 8],
+        heads: vec![0, 1, 2, 3, 4, 5, 11, 12],
+        costs: vec![200, 1, 1, 1, 1, 1, 1, 1],
+        classes: vec![7; 8],
     };
     let mut sheet = vec![0; 20];
     sheet[..6].copy_from_slice(&[10, 108, 97, 110, 101, 32]);
@@ -363,7 +366,8 @@ fn standard_input_is_read() {
     }
     let path = example("plan-a.txt");
     let of_file = plan(&[path.to_str().expect("a path")], "");
-    assert_eq!(of_file.out, "04 04 00 01 01 00 02 04 01 02 02 01 03 03\n");
+    let pairs = "04 04 00 01 01 00 00 02 04 00 01 02 02 00 01 03 03 00\n";
+    assert_eq!(of_file.out, pairs);
     assert_eq!(plan(&["-"], read("plan-a.txt")), of_file);
     assert_eq!(plan(&[], read("plan-a.txt")), of_file);
     let mut odd = Command::new(env!("CARGO_BIN_EXE_job"));
@@ -394,18 +398,18 @@ fn check_says_that_all_is_well() {
 #[test]
 fn positions_are_described_for_reader_and_writer() {
     let writer = "where a plan was to be written, it is a lane, counted from 0\n";
-    for number in ["4", "5", "6"] {
+    for number in ["4", "5", "6", "15"] {
         let left = job(&["describe", number], "");
         assert_eq!(left.status, 0);
         assert!(left.out.contains("the position is a byte of the plan"));
         assert!(left.out.ends_with(writer), "{}", left.out);
     }
-    for number in 1..=14 {
+    for number in 1..=LAST_REFUSAL {
         let left = job(&["describe", &number.to_string()], "");
         assert!(left.out.starts_with(&format!("refusal {number}: ")));
     }
-    for number in ["0", "15", "four", "-1"] {
-        let words = format!("'{number}' is not a refusal's number, 1 to 14\n");
+    for number in ["0", "16", "four", "-1"] {
+        let words = format!("'{number}' is not a refusal's number, 1 to 15\n");
         assert_eq!(job(&["describe", number], ""), left(4, "", &words));
     }
     // The writer's lane is named by `plan` too.
@@ -413,7 +417,57 @@ fn positions_are_described_for_reader_and_writer() {
     let words = "refused 4 at 1, lane 1 counted from 0, line 3: a tail or head is not a place\n";
     assert_eq!(plan(&[], text), left(3, "", words));
     let words = "refused 4 at 3, byte 3 counted from 0: a tail or head is not a place\n";
-    assert_eq!(plan(&[], "04 01 00 09 01"), left(3, "", words));
+    assert_eq!(plan(&[], "04 01 00 09 01 00"), left(3, "", words));
+    let text = "places 4\nlane 0 1 1 7\nlane 0 2 1 8\n";
+    let words = "refused 15 at 1, lane 1 counted from 0, line 3: a class is above 7\n";
+    assert_eq!(plan(&[], text), left(3, "", words));
+    let words = "refused 15 at 5, byte 5 counted from 0: a class is above 7\n";
+    assert_eq!(plan(&[], "04 01 00 01 01 08"), left(3, "", words));
+}
+
+/// A plan's text without classes is one of class 0, and is printed with them.
+#[test]
+fn a_plan_without_classes() {
+    let text = read("plan-a.txt");
+    let without = text.replace(" 0\n", "\n");
+    assert!(without.contains("lane 0 1 1\n"));
+    assert_eq!(plan(&[], &without), plan(&[], &text));
+    let (_, lines) = text.split_once("\nplaces 4\n").expect("a line");
+    let printed = plan(&[], plan(&[], &without).out);
+    assert_eq!(printed, left(0, &format!("places 4\n{lines}"), ""));
+    // All classes are read and printed.
+    let mut text = "places 9\n".to_string();
+    for class in 0..8 {
+        text += &format!("lane 0 {} 5 {class}\n", class + 1);
+    }
+    assert_eq!(plan(&[], plan(&[], &text).out), left(0, &text, ""));
+}
+
+/// A barred class is named on a line, and a wrong number is told there.
+#[test]
+fn a_barred_class_is_kept_off() {
+    let ramp = read("ramp.txt");
+    assert_eq!(job(&["run"], &ramp), left(0, &read("ramp.out"), ""));
+    for (barred, printed) in [
+        ("2", "ramp-barred.out"),
+        ("254", "ramp-barred.out"),
+        ("4", "ramp.out"),
+    ] {
+        let text = with("ramp.txt", "barred 0", &format!("barred {barred}"));
+        assert_eq!(job(&["run"], text), left(0, &read(printed), ""));
+    }
+    let all = with("ramp.txt", "barred 0", "barred 255");
+    let printed = "turn 1 table 1 place 0\nno route turns 1\n";
+    assert_eq!(job(&["run"], all), left(1, printed, ""));
+    let above = with("ramp.txt", "barred 0", "barred 256");
+    let words = "line 24: barred 256 is above 255; it has bit k for class k, classes 0 to 7 \
+                 (refusal 8)\n";
+    assert_eq!(job(&["run"], &above), left(3, "refused 8 at 0\n", words));
+    let words = format!("{words}the bench program prints: refused 8 at 0\n");
+    assert_eq!(job(&["check"], above), left(3, &words, ""));
+    let words = "line 4: class 8 is above 7 (refusal 15)\n";
+    let refused = job(&["run"], read("refusal-15.txt"));
+    assert_eq!(refused, left(3, "refused 15 at 9\n", words));
 }
 
 #[test]
@@ -423,10 +477,13 @@ fn the_exit_status_tells_the_ending() {
         ("wall", 0),
         ("cut-round-two", 0),
         ("start-is-goal", 0),
+        ("ramp", 0),
+        ("ramp-barred", 0),
         ("no-route", 1),
         ("refusal-01", 3),
         ("refusal-13", 3),
         ("refusal-14", 3),
+        ("refusal-15", 3),
     ] {
         let printed = read(&format!("{name}.out"));
         for form in ["txt", "job"] {
@@ -462,6 +519,7 @@ fn jobs_beyond_the_bench_program_are_planned() {
     let mut large = jobs::job_on(&mut random, &plan);
     (large.start, large.goal, large.budget) = (0, 1, u32::MAX);
     large.anchor = vec![0; 4_096];
+    large.barred = 1 << 3;
     let bytes = large.bench_bytes();
     let text = TextJob::of_bytes(&bytes);
     let printed = run::run(&SecondPlanner, &text);
