@@ -32,6 +32,26 @@ pub fn table_name(table: usize) -> String {
     }
 }
 
+/// The classes whose bits a barred number has.
+pub fn classes_of(barred: u32) -> Vec<u32> {
+    (0..=MOST_CLASS)
+        .filter(|class| barred >> class & 1 == 1)
+        .collect()
+}
+
+/// What a job bars, with the count of its lanes that are barred; nothing is
+/// said of a job that bars nothing.
+pub fn barred_words(barred: u32, lanes: usize) -> String {
+    let classes = classes_of(barred);
+    let named: Vec<String> = classes.iter().map(u32::to_string).collect();
+    let (named, lanes) = (named.join(", "), count(lanes, "lane"));
+    match classes.len() {
+        0 => String::new(),
+        1 => format!("; class {named} is barred, {lanes}"),
+        _ => format!("; classes {named} are barred, {lanes}"),
+    }
+}
+
 /// A tail, head, start or goal that is none of the places.
 pub fn not_a_place(name: &str, place: u32, places: u32) -> String {
     let range = match places {

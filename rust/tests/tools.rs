@@ -386,12 +386,28 @@ fn check_says_that_all_is_well() {
             "wall",
             "24 places, 62 lanes, 1 guide, the house schedule of 6 rounds",
         ),
+        (
+            "ramp-barred",
+            "6 places, 12 lanes, 1 guide, the house schedule of 6 rounds; class 1 is barred, 2 \
+             lanes",
+        ),
     ] {
         let words = format!("nothing is wrong: {words}\n");
         assert_eq!(
             job(&["check"], read(&format!("{name}.txt"))),
             left(0, &words, "")
         );
+    }
+    for (barred, words) in [
+        ("128", "; class 7 is barred, 0 lanes\n"),
+        ("5", "; classes 0, 2 are barred, 10 lanes\n"),
+        (
+            "255",
+            "; classes 0, 1, 2, 3, 4, 5, 6, 7 are barred, 12 lanes\n",
+        ),
+    ] {
+        let text = with("ramp.txt", "barred 0", &format!("barred {barred}"));
+        assert!(job(&["check"], text).out.ends_with(words), "{barred}");
     }
 }
 

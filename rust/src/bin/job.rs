@@ -12,9 +12,9 @@ use secondcoop_tests::planners::{self, Library, Planner, SecondPlanner};
 use secondcoop_tests::reference::LAST_REFUSAL;
 use secondcoop_tests::refusals::{position_words, refusal_words, remarks, Taker};
 use secondcoop_tests::run;
-use secondcoop_tests::text::{pairs_text, TextJob};
+use secondcoop_tests::text::{pairs_text, Line, TextJob};
 use secondcoop_tests::tool::{self, Done, NOTHING_DONE, NO_ROUTE, REFUSED, UNFINISHED};
-use secondcoop_tests::words::{count, quoted};
+use secondcoop_tests::words::{barred_words, classes_of, count, quoted};
 
 const USAGE: &str = "\
 usage: job run FILE         plans the job with the proved library; prints its turns, then the
@@ -115,8 +115,11 @@ impl Read {
             Taker::Bench => "",
             Taker::Call => "; too large for the bench program, 'job run' plans it",
         };
+        let barred = lines.barred.says;
+        let is_barred = |lane: &&Line<[u32; 4]>| classes_of(barred).contains(&lane.says[3]);
+        let barred = barred_words(barred, plan.lanes.iter().filter(is_barred).count());
         format!(
-            "nothing is wrong: {}, {}, {}, {rounds}{size}\n",
+            "nothing is wrong: {}, {}, {}, {rounds}{barred}{size}\n",
             count(plan.places.says as usize, "place"),
             count(plan.lanes.len(), "lane"),
             count(lines.tables.guide_count().says, "guide"),
