@@ -91,6 +91,42 @@ pub struct Events {
     pub barred_only: u64,
 }
 
+/// What the events of one search have shown so far.
+#[derive(Default)]
+struct Seen {
+    turns_in_round: u32,
+    /// Vertices expanded in the round in hand; those that the anchor
+    /// expanded in it, and in rounds before.
+    in_round: Vec<u32>,
+    by_anchor: Vec<u32>,
+    by_anchor_before: Vec<u32>,
+    kept_walk: Vec<u32>,
+    twice: bool,
+    again: bool,
+    no_line: bool,
+    too_dear: bool,
+}
+
+impl Seen {
+    fn begin(&mut self) {
+        self.turns_in_round = 0;
+        self.in_round.clear();
+        self.by_anchor_before.append(&mut self.by_anchor);
+    }
+
+    fn turn(&mut self, table: u32, vertex: u32, no_line: bool, guide_count: u32) {
+        self.turns_in_round += 1;
+        self.twice |= self.in_round.contains(&vertex);
+        self.again |= self.by_anchor_before.contains(&vertex);
+        self.in_round.push(vertex);
+        if table == 0 {
+            self.by_anchor.push(vertex);
+            self.no_line |= no_line;
+            self.too_dear |= !no_line && guide_count > 0;
+        }
+    }
+}
+
 impl Events {
     /// All counts with their names.
     pub fn names(&self) -> Vec<(&'static str, u64)> {
@@ -139,93 +175,95 @@ impl Events {
     pub fn count(&mut self, job: &Job) -> Answer {
         let (answer, events) = job.events();
         self.jobs += 1;
-        let mut turns_in_round = 0u32;
-        let mut in_round: Vec<u32> = Vec::new();
-        let mut by_anchor: Vec<u32> = Vec::new();
-        let mut by_anchor_before: Vec<u32> = Vec::new();
-        let mut kept_walk: Vec<u32> = Vec::new();
-        let (mut twice, mut again) = (false, false);
-        let (mut no_line, mut too_dear) = (false, false);
+        let mut seen = Seen::default();
         for event in &events {
-            match event {
-                Event::Begin { .. } => {
-                    turns_in_round = 0;
-                    in_round.clear();
-                    by_anchor_before.append(&mut by_anchor);
-                }
+            match *event {
+                Event::Begin { .. } => seen.begin(),
                 Event::Turn {
                     table,
                     vertex,
-                    no_line: empty,
+                    no_line,
                     ..
-                } => {
-                    turns_in_round += 1;
-                    twice |= in_round.contains(vertex);
-                    again |= by_anchor_before.contains(vertex);
-                    in_round.push(*vertex);
-                    if *table == 0 {
-                        by_anchor.push(*vertex);
-                        no_line |= *empty;
-                        too_dear |= !*empty && job.guide_count > 0;
-                    }
-                }
-                Event::Finish {
-                    turns,
-                    goal_cost,
-                    traced,
-                    traced_cost,
-                    kept,
-                    ..
-                } => {
-                    self.trace_below_goal += u64::from(traced_cost < goal_cost);
-                    let spent = *turns == job.budget;
-                    self.end_with_budget_spent += u64::from(spent && turns_in_round > 0);
-                    self.finish_without_turn += u64::from(spent && turns_in_round == 0);
-                    match kept {
-                        Some(kept) if traced_cost == kept => {
-                            self.equal_later += 1;
-                            self.equal_other_later += u64::from(*traced != kept_walk);
-                        }
-                        Some(kept) if traced_cost > kept => self.dearer_later += 1,
-                        Some(_) => self.cheaper_later += 1,
-                        None => {}
-                    }
-                    if kept.is_none_or(|kept| *traced_cost < kept) {
-                        kept_walk = traced.clone();
-                    }
-                }
+                } => seen.turn(table, vertex, no_line, job.guide_count),
+                Event::Finish { .. } => self.count_finish(job, event, &mut seen),
                 Event::Cut { round, turns } => {
-                    let mut longer = job.clone();
-                    longer.budget = turns + 1;
-                    let (_, events) = longer.events();
-                    let mut next = events.iter().filter_map(|event| match event {
-                        Event::Finish { round, turns, .. } => Some((*round, *turns, true)),
-                        Event::NoRoute { round, turns, .. } => Some((*round, *turns, false)),
-                        _ => None,
-                    });
-                    let finish = next.find(|&(other, end, _)| other == *round && end == turns + 1);
-                    let first = *round == 1;
-                    let before_end = finish.is_some_and(|(_, _, route)| route);
-                    let before_no_route = finish.is_some_and(|(_, _, route)| !route);
-                    let at_begin = turns_in_round == 0;
-                    self.cut_at_begin_of_first += u64::from(first && at_begin);
-                    self.cut_at_begin_of_later += u64::from(!first && at_begin);
-                    self.cut_before_end_of_first += u64::from(first && before_end);
-                    self.cut_before_end_of_later += u64::from(!first && before_end);
-                    self.cut_before_no_route += u64::from(before_no_route);
-                    self.cut_inside += u64::from(!at_begin && finish.is_none());
+                    self.count_cut(job, round, turns, seen.turns_in_round == 0);
                 }
                 Event::NoRoute { turns, held, .. } => {
-                    self.no_route += u64::from(*held == 0);
-                    self.no_route_held += u64::from(*held > 0);
-                    self.end_with_budget_spent += u64::from(*turns == job.budget);
+                    self.no_route += u64::from(held == 0);
+                    self.no_route_held += u64::from(held > 0);
+                    self.end_with_budget_spent += u64::from(turns == job.budget);
                 }
             }
         }
-        self.twice_in_round += u64::from(twice);
-        self.again_later += u64::from(again);
-        self.no_line += u64::from(no_line);
-        self.line_too_dear += u64::from(too_dear);
+        self.twice_in_round += u64::from(seen.twice);
+        self.again_later += u64::from(seen.again);
+        self.no_line += u64::from(seen.no_line);
+        self.line_too_dear += u64::from(seen.too_dear);
+        self.count_answer(job, answer);
+        if !matches!(answer, Answer::Refused { .. }) {
+            let plan = Plan::of_bytes(&job.bytes);
+            self.count_shape(job, &plan);
+            self.count_barred(job, &plan, answer);
+        }
+        answer
+    }
+
+    /// Counts what a finished round shows.
+    fn count_finish(&mut self, job: &Job, event: &Event, seen: &mut Seen) {
+        let Event::Finish {
+            turns,
+            goal_cost,
+            traced,
+            traced_cost,
+            kept,
+            ..
+        } = event
+        else {
+            return;
+        };
+        self.trace_below_goal += u64::from(traced_cost < goal_cost);
+        let spent = *turns == job.budget;
+        self.end_with_budget_spent += u64::from(spent && seen.turns_in_round > 0);
+        self.finish_without_turn += u64::from(spent && seen.turns_in_round == 0);
+        match kept {
+            Some(kept) if traced_cost == kept => {
+                self.equal_later += 1;
+                self.equal_other_later += u64::from(*traced != seen.kept_walk);
+            }
+            Some(kept) if traced_cost > kept => self.dearer_later += 1,
+            Some(_) => self.cheaper_later += 1,
+            None => {}
+        }
+        if kept.is_none_or(|kept| *traced_cost < kept) {
+            seen.kept_walk = traced.clone();
+        }
+    }
+
+    /// Counts where a round was cut: what one turn more would have ended.
+    fn count_cut(&mut self, job: &Job, round: u32, turns: u32, at_begin: bool) {
+        let mut longer = job.clone();
+        longer.budget = turns + 1;
+        let (_, events) = longer.events();
+        let mut next = events.iter().filter_map(|event| match event {
+            Event::Finish { round, turns, .. } => Some((*round, *turns, true)),
+            Event::NoRoute { round, turns, .. } => Some((*round, *turns, false)),
+            _ => None,
+        });
+        let finish = next.find(|&(other, end, _)| other == round && end == turns + 1);
+        let first = round == 1;
+        let before_end = finish.is_some_and(|(_, _, route)| route);
+        let before_no_route = finish.is_some_and(|(_, _, route)| !route);
+        self.cut_at_begin_of_first += u64::from(first && at_begin);
+        self.cut_at_begin_of_later += u64::from(!first && at_begin);
+        self.cut_before_end_of_first += u64::from(first && before_end);
+        self.cut_before_end_of_later += u64::from(!first && before_end);
+        self.cut_before_no_route += u64::from(before_no_route);
+        self.cut_inside += u64::from(!at_begin && finish.is_none());
+    }
+
+    /// Counts what a route shows.
+    fn count_answer(&mut self, job: &Job, answer: Answer) {
         if let Answer::Route {
             cost,
             length,
@@ -242,12 +280,6 @@ impl Events {
             self.free_walk += u64::from(cost == 0 && length > 1);
             self.log_full += u64::from(turns as usize > job.log_room);
         }
-        if !matches!(answer, Answer::Refused { .. }) {
-            let plan = Plan::of_bytes(&job.bytes);
-            self.count_shape(job, &plan);
-            self.count_barred(job, &plan, answer);
-        }
-        answer
     }
 
     /// Counts what the barred classes change.

@@ -250,28 +250,13 @@ pub fn damage(random: &mut Random, plan: &Plan) -> (Vec<u8>, Figures, Option<Fie
     let (mut bytes, numbers) = plan.encode();
     let index = random.index(numbers.len());
     let number = numbers[index];
-    let end = number.offset + number.length;
-    let here = number.offset as u64;
-    let field = Some(number.field);
-    let with = |mut bytes: Vec<u8>, new: &[u8]| {
-        bytes.splice(number.offset..end, new.iter().copied());
-        bytes
-    };
-    let with_value = |bytes: Vec<u8>, value: u32| {
-        let mut new = Vec::new();
-        push_number(&mut new, value);
-        with(bytes, &new)
-    };
-    match random.below(8) {
+    let (refusal, new) = match random.below(8) {
         0 => {
             // The bytes end at or inside this number.
             bytes.truncate(number.offset + random.index(number.length));
-            return (bytes, [1, here, 0, 0], field);
+            return (bytes, [1, number.offset as u64, 0, 0], Some(number.field));
         }
-        1 => {
-            let new = bad_form(random, number.value);
-            return (with(bytes, &new), [1, here, 0, 0], field);
-        }
+        1 => (1, bad_form(random, number.value)),
         2 => {
             // Bytes left over.
             let end = bytes.len() as u64;
@@ -280,10 +265,23 @@ pub fn damage(random: &mut Random, plan: &Plan) -> (Vec<u8>, Figures, Option<Fie
             }
             return (bytes, [7, end, 0, 0], None);
         }
-        _ => {}
-    }
-    let edge = index.wrapping_sub(2) / 4;
-    let (refusal, value) = match number.field {
+        _ => {
+            let edge = index.wrapping_sub(2) / 4;
+            let (refusal, value) = refused_value(random, plan, number, edge);
+            let mut new = Vec::new();
+            push_number(&mut new, value);
+            (refusal, new)
+        }
+    };
+    bytes.splice(number.offset..number.offset + number.length, new);
+    let figures = [refusal, number.offset as u64, 0, 0];
+    (bytes, figures, Some(number.field))
+}
+
+/// A value in place of a plan number, of V or M or of an edge, with the
+/// refusal that it gets.
+fn refused_value(random: &mut Random, plan: &Plan, number: Number, edge: usize) -> (u64, u32) {
+    match number.field {
         Field::Vertices if random.one_in(3) => (2, 0),
         Field::Vertices => (2, number_from(random, MOST_VERTICES + 1)),
         Field::Edges => (3, number_from(random, MOST_EDGES as u32 + 1)),
@@ -301,62 +299,66 @@ pub fn damage(random: &mut Random, plan: &Plan) -> (Vec<u8>, Figures, Option<Fie
         }
         Field::Cost => (5, number_from(random, MOST_COST + 1)),
         Field::Class => (15, number_from(random, MOST_CLASS + 1)),
+    }
+}
+
+/// A number from `limit`, `limit` itself and the greatest ones likely.
+fn number_above(random: &mut Random, limit: u32) -> u32 {
+    match random.below(3) {
+        0 => limit,
+        1 => u32::MAX - random.range32(0, 3),
+        _ => random.range32(limit, u32::MAX),
+    }
+}
+
+/// Puts an edge of the lists out of order; whether that can be had.
+fn damage_order(random: &mut Random, plan: &mut Plan, edge: usize) -> bool {
+    let Some(before) = edge.checked_sub(1) else {
+        return false;
     };
-    (with_value(bytes, value), [refusal, here, 0, 0], field)
+    let (tail, head) = (plan.tails[before], plan.heads[before]);
+    if tail > 0 && random.one_in(3) {
+        // A falling tail.
+        plan.tails[edge] = random.range32(0, tail - 1);
+        return true;
+    }
+    // The same tail, a head that is not above.
+    plan.tails[edge] = tail;
+    plan.heads[edge] = match random.one_in(2) {
+        true => head,
+        false => random.range32(0, head),
+    };
+    true
 }
 
 /// Damages the lists of a plan in one edge: the refusal that the writer must
 /// give. The plan has an edge.
 pub fn damage_lists(random: &mut Random, plan: &mut Plan) -> Figures {
-    loop {
-        let edge = random.index(plan.edges());
-        let number_above = |random: &mut Random, limit: u32| match random.below(3) {
-            0 => limit,
-            1 => u32::MAX - random.range32(0, 3),
-            _ => random.range32(limit, u32::MAX),
-        };
-        let number = match random.below(7) {
-            0 => {
-                plan.tails[edge] = number_above(random, plan.vertices);
-                4
-            }
-            1 => {
-                plan.heads[edge] = number_above(random, plan.vertices);
-                4
-            }
-            2 => {
-                plan.costs[edge] = number_above(random, MOST_COST + 1);
-                // A class above 7 as well does not count.
-                if random.one_in(3) {
-                    plan.classes[edge] = number_above(random, MOST_CLASS + 1);
-                }
-                5
-            }
-            6 => {
+    let edge = random.index(plan.edges());
+    let number = match random.below(7) {
+        0 => {
+            plan.tails[edge] = number_above(random, plan.vertices);
+            4
+        }
+        1 => {
+            plan.costs[edge] = number_above(random, MOST_COST + 1);
+            // A class above 7 as well does not count.
+            if random.one_in(3) {
                 plan.classes[edge] = number_above(random, MOST_CLASS + 1);
-                15
             }
-            3 if edge > 0 && plan.tails[edge - 1] > 0 => {
-                // A falling tail.
-                let last = plan.tails[edge - 1];
-                plan.tails[edge] = random.range32(0, last - 1);
-                6
-            }
-            4 | 5 if edge > 0 => {
-                // The same tail, a head that is not above.
-                plan.tails[edge] = plan.tails[edge - 1];
-                let last = plan.heads[edge - 1];
-                plan.heads[edge] = if random.one_in(2) {
-                    last
-                } else {
-                    random.range32(0, last)
-                };
-                6
-            }
-            _ => continue,
-        };
-        return [number, edge as u64, 0, 0];
-    }
+            5
+        }
+        2 => {
+            plan.classes[edge] = number_above(random, MOST_CLASS + 1);
+            15
+        }
+        3..=5 if damage_order(random, plan, edge) => 6,
+        _ => {
+            plan.heads[edge] = number_above(random, plan.vertices);
+            4
+        }
+    };
+    [number, edge as u64, 0, 0]
 }
 
 /// Bytes that are often the ends of ranges.
@@ -653,6 +655,21 @@ pub fn changed_bytes(seed: u64, count: usize, sink: Sink) {
     }
 }
 
+/// Makes one of a plan's lists longer or shorter than the others.
+fn make_unequal(random: &mut Random, plan: &mut Plan) {
+    let list = match random.below(4) {
+        0 => &mut plan.tails,
+        1 => &mut plan.heads,
+        2 => &mut plan.costs,
+        _ => &mut plan.classes,
+    };
+    if list.is_empty() || random.one_in(2) {
+        list.push(random.of_any_size(32) as u32);
+    } else {
+        list.truncate(random.index(list.len()));
+    }
+}
+
 /// Lists for the writer: damaged in one edge, unequal, too many, with a
 /// vertex count out of range.
 pub fn damaged_lists(seed: u64, count: usize, sink: Sink) {
@@ -669,37 +686,27 @@ pub fn damaged_lists(seed: u64, count: usize, sink: Sink) {
             1 => length + 20,
             _ => random.index(length),
         };
-        let mut known = match random.below(8) {
+        let known = match random.below(8) {
             0 => {
                 plan.vertices =
                     random.pick(&[0, MOST_VERTICES + 1, MOST_VERTICES + 2, 70_000, u32::MAX]);
                 [2, 0, 0, 0]
             }
             1 => {
-                let list = random.index(4);
-                let lists = [
-                    &mut plan.tails,
-                    &mut plan.heads,
-                    &mut plan.costs,
-                    &mut plan.classes,
-                ];
-                let list = lists.into_iter().nth(list).unwrap();
-                if list.is_empty() || random.one_in(2) {
-                    list.push(random.of_any_size(32) as u32);
-                } else {
-                    list.truncate(random.index(list.len()));
-                }
+                make_unequal(&mut random, &mut plan);
                 [3, 0, 0, 0]
             }
             _ if plan.edges() > 0 => damage_lists(&mut random, &mut plan),
+            _ if room < length => [11, 0, 0, 0],
             _ => [0, 0, length as u64, 0],
         };
-        if known[0] == 0 && room < length {
-            known = [11, 0, 0, 0];
-        }
         sink(plan.write_case(room), Some(known));
     }
-    // One edge too many, in equal lists.
+    too_many_edges(sink);
+}
+
+/// Equal lists of more edges than a plan may have.
+fn too_many_edges(sink: Sink) {
     for edges in [
         MOST_EDGES + 1,
         MOST_EDGES + 2,
@@ -753,6 +760,23 @@ fn read_refused(plan: &Plan, bytes: Vec<u8>, known: Option<Figures>, sink: Sink)
     sink(Case::ReadPlan { bytes, room }, known);
 }
 
+/// Tails and heads of up to six edges, often in order.
+fn random_pairs(random: &mut Random, vertices: u32) -> Vec<(u32, u32)> {
+    let edges = random.index(7);
+    let beyond = u64::from(random.one_in(4));
+    let small = u64::from(vertices.clamp(1, 6)) - 1 + beyond;
+    let mut pairs: Vec<(u32, u32)> = (0..edges)
+        .map(|_| (random.range(0, small) as u32, random.range(0, small) as u32))
+        .collect();
+    if !random.one_in(4) {
+        pairs.sort_unstable();
+    }
+    if random.one_in(2) {
+        pairs.dedup();
+    }
+    pairs
+}
+
 /// Random short lists for the writer, often near a plan.
 pub fn random_lists(seed: u64, count: usize, sink: Sink) {
     let mut random = Random::new(seed);
@@ -762,28 +786,12 @@ pub fn random_lists(seed: u64, count: usize, sink: Sink) {
         } else {
             random.range32(1, 6)
         };
-        let edges = random.index(7);
-        let beyond = u64::from(random.one_in(4));
-        let small = u64::from(vertices.clamp(1, 6)) - 1 + beyond;
-        let mut pairs: Vec<(u32, u32)> = (0..edges)
-            .map(|_| (random.range(0, small) as u32, random.range(0, small) as u32))
-            .collect();
-        if !random.one_in(4) {
-            pairs.sort_unstable();
-        }
-        if random.one_in(2) {
-            pairs.dedup();
-        }
-        let costs: Vec<u32> = pairs
-            .iter()
-            .map(|_| {
-                if random.one_in(20) {
-                    MOST_COST + random.range32(0, 2)
-                } else {
-                    random_cost(&mut random)
-                }
-            })
-            .collect();
+        let pairs = random_pairs(&mut random, vertices);
+        let costs = pairs.iter().map(|_| match random.one_in(20) {
+            true => MOST_COST + random.range32(0, 2),
+            false => random_cost(&mut random),
+        });
+        let costs = costs.collect();
         let mut classes = random_classes(&mut random, pairs.len());
         for class in &mut classes {
             if random.one_in(20) {

@@ -668,105 +668,124 @@ fn is_of_plan(number: u32) -> bool {
     number <= 7 || number == 15
 }
 
+/// The plan's bytes damaged for one of its refusals; the position.
+fn damage_plan(random: &mut Random, plan: &Plan, job: &mut Job, number: u32) -> Option<usize> {
+    for _ in 0..200 {
+        let (bytes, figures, _) = generate::damage(random, plan);
+        if figures[0] == u64::from(number) {
+            job.bytes = bytes;
+            return Some(figures[1] as usize);
+        }
+    }
+    None
+}
+
+/// Start or goal not a vertex, or a barred number above 255.
+fn damage_ends(random: &mut Random, plan: &Plan, job: &mut Job) {
+    let mut outside = |first: u32| match random.one_in(2) {
+        true => first,
+        false => random.range32(first, u32::MAX),
+    };
+    let (place, barred) = (outside(plan.vertices), outside(planner::MOST_BARRED + 1));
+    match random.below(3) {
+        0 => job.start = place,
+        1 => job.goal = place,
+        _ => job.barred = barred,
+    }
+}
+
+/// Too many guides, or tables of another length.
+fn damage_tables(random: &mut Random, plan: &Plan, job: &mut Job) {
+    match random.below(6) {
+        0 => {
+            job.guide_count = 9;
+            job.guides = vec![0; 9 * plan.vertices as usize];
+        }
+        1 => job.guide_count = random.range32(9, u32::MAX),
+        2 => job.anchor.push(0),
+        3 => drop(job.anchor.pop()),
+        4 => job.guides.push(0),
+        _ => {
+            if job.guides.pop().is_none() {
+                job.guides.push(1);
+            }
+        }
+    }
+}
+
+/// A schedule too long, odd, out of range or rising.
+fn damage_schedule(random: &mut Random, job: &mut Job) {
+    match random.below(6) {
+        0 => job.schedule = vec![100; 34],
+        1 => {
+            if job.schedule.pop().is_none() {
+                job.schedule.push(100);
+            }
+        }
+        2 if !job.schedule.is_empty() => {
+            let index = random.index(job.schedule.len());
+            job.schedule[index] = random.pick(&[0, 1, 99, 10_001, 20_000, u32::MAX]);
+        }
+        3 => job.schedule = vec![200, 200, 200, 201],
+        4 => job.schedule = vec![200, 200, 201, 200],
+        _ => job.schedule = vec![300, 300, 100, 100, 101, 100],
+    }
+}
+
+/// Route or work memory too short.
+fn damage_memory(random: &mut Random, plan: &Plan, job: &mut Job) {
+    let vertices = plan.vertices as usize;
+    if random.one_in(2) {
+        job.route_room = random.index(vertices);
+        return;
+    }
+    let needed = planner::work_words(vertices, plan.edges());
+    job.work_room = if random.one_in(2) {
+        needed - 1
+    } else {
+        random.index(needed)
+    };
+}
+
+/// Raises the anchor table at one tail past the rule of one of its edges,
+/// barred or not; the first edge that breaks the rule.
+fn damage_rule(random: &mut Random, plan: &Plan, job: &mut Job) -> Option<usize> {
+    let ends = |edge: usize| (plan.tails[edge] as usize, plan.heads[edge] as usize);
+    let most = |edge: usize, anchor: &[u32]| {
+        u64::from(plan.costs[edge]) + u64::from(anchor[plan.heads[edge] as usize])
+    };
+    let breakable: Vec<usize> = (0..plan.edges())
+        .filter(|&edge| {
+            let (tail, head) = ends(edge);
+            let other = tail != head && tail != job.goal as usize;
+            other && most(edge, &job.anchor) < u64::from(u32::MAX)
+        })
+        .collect();
+    if breakable.is_empty() {
+        return None;
+    }
+    let edge = random.pick(&breakable);
+    let least = most(edge, &job.anchor) as u32 + 1;
+    job.anchor[ends(edge).0] = if random.one_in(2) {
+        least
+    } else {
+        random.range32(least, u32::MAX)
+    };
+    let breaks = |&edge: &usize| u64::from(job.anchor[ends(edge).0]) > most(edge, &job.anchor);
+    (0..plan.edges()).find(breaks)
+}
+
 /// Damages a valid job so that it gets one of the call's refusals; the
 /// position that its making decides. `None` if this job cannot be damaged so.
 pub fn damage_job(random: &mut Random, plan: &Plan, job: &mut Job, number: u32) -> Option<usize> {
-    let vertices = plan.vertices;
     match number {
-        _ if is_of_plan(number) => {
-            for _ in 0..200 {
-                let (bytes, figures, _) = generate::damage(random, plan);
-                if figures[0] == u64::from(number) {
-                    job.bytes = bytes;
-                    return Some(figures[1] as usize);
-                }
-            }
-            return None;
-        }
-        8 => {
-            let mut outside = |first: u32| match random.one_in(2) {
-                true => first,
-                false => random.range32(first, u32::MAX),
-            };
-            let (place, barred) = (outside(vertices), outside(planner::MOST_BARRED + 1));
-            match random.below(3) {
-                0 => job.start = place,
-                1 => job.goal = place,
-                _ => job.barred = barred,
-            }
-        }
-        9 => match random.below(6) {
-            0 => {
-                job.guide_count = 9;
-                job.guides = vec![0; 9 * vertices as usize];
-            }
-            1 => job.guide_count = random.range32(9, u32::MAX),
-            2 => job.anchor.push(0),
-            3 => drop(job.anchor.pop()),
-            4 => job.guides.push(0),
-            _ => {
-                if job.guides.pop().is_none() {
-                    job.guides.push(1);
-                }
-            }
-        },
-        10 => match random.below(6) {
-            0 => job.schedule = vec![100; 34],
-            1 => {
-                if job.schedule.pop().is_none() {
-                    job.schedule.push(100);
-                }
-            }
-            2 if !job.schedule.is_empty() => {
-                let index = random.index(job.schedule.len());
-                job.schedule[index] = random.pick(&[0, 1, 99, 10_001, 20_000, u32::MAX]);
-            }
-            3 => job.schedule = vec![200, 200, 200, 201],
-            4 => job.schedule = vec![200, 200, 201, 200],
-            _ => job.schedule = vec![300, 300, 100, 100, 101, 100],
-        },
-        11 => {
-            if random.one_in(2) {
-                job.route_room = random.index(vertices as usize);
-            } else {
-                let needed = planner::work_words(vertices as usize, plan.edges());
-                job.work_room = if random.one_in(2) {
-                    needed - 1
-                } else {
-                    random.index(needed)
-                };
-            }
-        }
+        _ if is_of_plan(number) => return damage_plan(random, plan, job, number),
+        8 => damage_ends(random, plan, job),
+        9 => damage_tables(random, plan, job),
+        10 => damage_schedule(random, job),
+        11 => damage_memory(random, plan, job),
         12 => job.anchor[job.goal as usize] = random.pick(&[1, 2, 500, u32::MAX]),
-        13 => {
-            // Raise the table at one tail past the rule of one of its edges.
-            let breakable: Vec<usize> = (0..plan.edges())
-                .filter(|&edge| {
-                    let (tail, head) = (plan.tails[edge], plan.heads[edge]);
-                    let least =
-                        u64::from(plan.costs[edge]) + u64::from(job.anchor[head as usize]) + 1;
-                    tail != head && tail != job.goal && least <= u64::from(u32::MAX)
-                })
-                .collect();
-            if breakable.is_empty() {
-                return None;
-            }
-            let edge = random.pick(&breakable);
-            let (tail, head) = (plan.tails[edge] as usize, plan.heads[edge] as usize);
-            let least = plan.costs[edge] + job.anchor[head] + 1;
-            job.anchor[tail] = if random.one_in(2) {
-                least
-            } else {
-                random.range32(least, u32::MAX)
-            };
-            // The first broken edge counts.
-            let first = (0..plan.edges()).find(|&edge| {
-                let (tail, head) = (plan.tails[edge] as usize, plan.heads[edge] as usize);
-                u64::from(job.anchor[tail])
-                    > u64::from(plan.costs[edge]) + u64::from(job.anchor[head])
-            });
-            return first;
-        }
+        13 => return damage_rule(random, plan, job),
         _ => return None,
     }
     Some(0)

@@ -124,7 +124,8 @@ fn read_counts(bytes: &[u8]) -> Result<(u32, u32, usize), Refusal> {
 
 /// Reads the edge at an offset and gives the offset after it. The tail before
 /// it is a vertex, and `least` is the least head that it allows.
-#[inline]
+// As part of the walk: by itself it is a third slower.
+#[inline(always)]
 fn read_edge(
     bytes: &[u8],
     at: usize,

@@ -35,11 +35,7 @@ pub fn call(planner: &dyn Planner, job: &TextJob) -> String {
         (places, plan.lanes.len().min(MOST_EDGES as usize))
     });
     let (anchor, guides) = numbers.split_at(places.min(numbers.len()));
-    let factors = match schedule.len() {
-        0 => HOUSE_SCHEDULE.len(),
-        length => length.min(32),
-    };
-    let turns = (factors * places).min(lines.allowance.says as usize);
+    let turns = most_turns(places, schedule.len()).min(lines.allowance.says as usize);
     let mut route = vec![0; places];
     let mut log = vec![0; turns];
     let mut work = vec![0; work_words(places, lanes)];
@@ -63,4 +59,13 @@ pub fn call(planner: &dyn Planner, job: &TextJob) -> String {
     let answer = Answer::of_figures(figures).expect("figures of an answer");
     let [.., turns, _] = figures;
     answer_text(&answer, &route, &logged(&log, turns as usize))
+}
+
+/// The turns that a call can have, by its places and the factors of its
+/// schedule.
+fn most_turns(places: usize, factors: usize) -> usize {
+    match factors {
+        0 => places * HOUSE_SCHEDULE.len(),
+        factors => places * factors.min(32),
+    }
 }

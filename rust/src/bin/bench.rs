@@ -23,6 +23,19 @@ struct Plan {
     classes: Vec<u32>,
 }
 
+impl Plan {
+    fn write(&self, side: &dyn Codec, out: &mut [u8]) -> [u64; 4] {
+        side.write_plan(
+            VERTICES,
+            &self.tails,
+            &self.heads,
+            &self.costs,
+            &self.classes,
+            out,
+        )
+    }
+}
+
 fn largest_plan() -> Plan {
     let mut random = Random::new(4_096);
     let each = EDGES / VERTICES as usize;
@@ -89,11 +102,30 @@ fn compare(name: &str, mut time: impl FnMut(&dyn Codec) -> f64) {
     );
 }
 
+/// Times reading: checking bytes, and reading them into lists.
+fn compare_reading(plan: &Plan, bytes: &[u8]) {
+    let both = [0, 0, VERTICES.into(), EDGES as u64];
+    compare("check_plan", |side| {
+        run(|| side.check_plan(black_box(bytes)), both)
+    });
+    let mut lists = [(); 4].map(|()| vec![0; EDGES]);
+    compare("read_plan", |side| {
+        let [tails, heads, costs, classes] = &mut lists;
+        run(
+            || side.read_plan(black_box(bytes), tails, heads, costs, classes),
+            both,
+        )
+    });
+    let [tails, heads, costs, classes] = lists;
+    assert!(tails == plan.tails && heads == plan.heads);
+    assert!(costs == plan.costs && classes == plan.classes);
+}
+
 fn main() {
     println!(
         "Reading and writing the largest plan ({VERTICES} vertices, {EDGES} edges, costs of one \
-         to three groups, eight classes): ns per edge, median of {RUNS} alternating runs of {CALLS} calls, \
-         library / second implementation."
+         to three groups, eight classes): ns per edge, median of {RUNS} alternating runs of \
+         {CALLS} calls, library / second implementation."
     );
     println!(
         "{:<12} {:>10} {:>10} {:>8}",
@@ -101,50 +133,13 @@ fn main() {
     );
     let plan = largest_plan();
     let mut bytes = vec![0; 8 * EDGES + 6];
-    let written = Reference.write_plan(
-        VERTICES,
-        &plan.tails,
-        &plan.heads,
-        &plan.costs,
-        &plan.classes,
-        &mut bytes,
-    );
+    let written = plan.write(&Reference, &mut bytes);
     assert_eq!(written[..2], [0, 0]);
-    let length = written[2] as usize;
-    bytes.truncate(length);
-    let both = [0, 0, VERTICES.into(), EDGES as u64];
-
-    compare("check_plan", |side| {
-        run(|| side.check_plan(black_box(&bytes)), both)
-    });
-
-    let mut lists = [(); 4].map(|()| vec![0; EDGES]);
-    compare("read_plan", |side| {
-        let [tails, heads, costs, classes] = &mut lists;
-        run(
-            || side.read_plan(black_box(&bytes), tails, heads, costs, classes),
-            both,
-        )
-    });
-    let [tails, heads, costs, classes] = lists;
-    assert!(tails == plan.tails && heads == plan.heads);
-    assert!(costs == plan.costs && classes == plan.classes);
-
-    let mut out = vec![0; length];
+    bytes.truncate(written[2] as usize);
+    compare_reading(&plan, &bytes);
+    let mut out = vec![0; bytes.len()];
     compare("write_plan", |side| {
-        run(
-            || {
-                side.write_plan(
-                    VERTICES,
-                    black_box(&plan.tails),
-                    &plan.heads,
-                    &plan.costs,
-                    &plan.classes,
-                    &mut out,
-                )
-            },
-            written,
-        )
+        run(|| black_box(&plan).write(side, &mut out), written)
     });
     assert!(out == bytes);
 }
