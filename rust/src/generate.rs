@@ -179,6 +179,22 @@ impl Plan {
         Plan { vertices, ..plan }
     }
 
+    /// The plan without the edges that `keep` leaves out, by number.
+    pub fn with_edges(&self, keep: impl Fn(usize) -> bool) -> Plan {
+        let kept = |list: &[u32]| -> Vec<u32> {
+            let numbered = list.iter().enumerate();
+            let kept = numbered.filter(|&(edge, _)| keep(edge));
+            kept.map(|(_, &number)| number).collect()
+        };
+        Plan {
+            vertices: self.vertices,
+            tails: kept(&self.tails),
+            heads: kept(&self.heads),
+            costs: kept(&self.costs),
+            classes: kept(&self.classes),
+        }
+    }
+
     pub fn without_edges(vertices: u32) -> Plan {
         Plan {
             vertices,

@@ -227,62 +227,52 @@ fn each_number_goes_through_its_rows_before_the_next_is_read() {
     });
 }
 
+/// The writer's answer for tails, heads, costs and classes and so much room;
+/// what it does not write it leaves.
+fn written(codec: &dyn Codec, vertices: u32, lists: [&[u32]; 4], room: usize) -> [u64; 4] {
+    let mut out = [0xEE; 64];
+    let [tails, heads, costs, classes] = lists;
+    let answer = codec.write_plan(vertices, tails, heads, costs, classes, &mut out[..room]);
+    let written = answer[2] as usize;
+    assert!(out[written..].iter().all(|&byte| byte == 0xEE));
+    answer
+}
+
 #[test]
 fn the_writer_takes_its_refusals_in_order() {
+    let bad: &[u32] = &[2_000_000];
+    let (tails, heads): (&[u32], &[u32]) = (&[1, 1], &[1, 2]);
+    let (dear, high): (&[u32], &[u32]) = (&[0, 1_000_001], &[0, 8]);
+    let free: &[u32] = &[0, 0];
     on_both(|codec| {
-        let write = |vertices, lists: [&[u32]; 4], room: usize| {
-            let mut out = [0xEE; 64];
-            let [tails, heads, costs, classes] = lists;
-            let answer = codec.write_plan(vertices, tails, heads, costs, classes, &mut out[..room]);
-            let written = answer[2] as usize;
-            assert!(out[written..].iter().all(|&byte| byte == 0xEE));
-            answer
-        };
-        let bad = 2_000_000;
-        let unequal: [&[u32]; 4] = [&[bad], &[], &[], &[]];
-        assert_eq!(write(0, unequal, 0), [2, 0, 0, 0]);
-        assert_eq!(write(4_097, unequal, 0), [2, 0, 0, 0]);
-        assert_eq!(write(3, unequal, 0), [3, 0, 0, 0]);
-        assert_eq!(write(3, [&[bad], &[bad], &[bad], &[]], 0), [3, 0, 0, 0]);
-        assert_eq!(write(3, [&[bad], &[bad], &[bad], &[bad]], 0), [4, 0, 0, 0]);
-        assert_eq!(write(3, [&[0], &[3], &[bad], &[bad]], 0), [4, 0, 0, 0]);
-        let (dear, bad_class): (&[u32], &[u32]) = (&[0, bad], &[0, 8]);
-        assert_eq!(
-            write(3, [&[1, 0], &[1, 3], dear, bad_class], 0),
-            [4, 1, 0, 0]
-        );
-        assert_eq!(
-            write(3, [&[1, 0], &[1, 2], dear, bad_class], 0),
-            [6, 1, 0, 0]
-        );
-        assert_eq!(
-            write(3, [&[1, 1], &[1, 1], dear, bad_class], 0),
-            [6, 1, 0, 0]
-        );
-        let (tails, heads): (&[u32], &[u32]) = (&[1, 1], &[1, 2]);
-        assert_eq!(write(3, [tails, heads, dear, bad_class], 0), [5, 1, 0, 0]);
-        assert_eq!(
-            write(3, [tails, heads, &[0, 1_000_001], bad_class], 0),
-            [5, 1, 0, 0]
-        );
-        assert_eq!(
-            write(3, [tails, heads, &[0, 1_000_000], bad_class], 0),
-            [15, 1, 0, 0]
-        );
-        // An earlier edge's fault counts first, whatever its number.
-        assert_eq!(
-            write(3, [&[1, 9], heads, &[bad, 0], &[0, 0]], 0),
-            [5, 0, 0, 0]
-        );
-        assert_eq!(
-            write(3, [&[1, 9], heads, &[0, bad], &[8, 0]], 0),
-            [15, 0, 0, 0]
-        );
-        let good: [&[u32]; 4] = [tails, heads, &[0, 0], &[0, 7]];
-        assert_eq!(write(3, good, 9), [11, 0, 0, 0]);
-        assert_eq!(write(3, good, 10), [0, 0, 10, 0]);
-        assert_eq!(write(1, [&[]; 4], 1), [11, 0, 0, 0]);
-        assert_eq!(write(1, [&[]; 4], 2), [0, 0, 2, 0]);
+        for (vertices, lists, answer) in [
+            (0, [bad, &[], &[], &[]], [2, 0]),
+            (4_097, [bad, &[], &[], &[]], [2, 0]),
+            (3, [bad, &[], &[], &[]], [3, 0]),
+            (3, [bad, bad, bad, &[]], [3, 0]),
+            (3, [bad, bad, bad, bad], [4, 0]),
+            (3, [&[0], &[3], bad, bad], [4, 0]),
+            (3, [&[1, 0], &[1, 3], dear, high], [4, 1]),
+            (3, [&[1, 0], &[1, 2], dear, high], [6, 1]),
+            (3, [&[1, 1], &[1, 1], dear, high], [6, 1]),
+            (3, [tails, heads, dear, free], [5, 1]),
+            (3, [tails, heads, dear, high], [5, 1]),
+            (3, [tails, heads, &[0, 1_000_000], high], [15, 1]),
+            // An earlier edge's fault counts first, whatever its number.
+            (3, [&[1, 9], heads, &[1_000_001, 0], free], [5, 0]),
+            (3, [&[1, 9], heads, dear, &[8, 0]], [15, 0]),
+            (3, [tails, heads, dear, &[8, 0]], [15, 0]),
+        ] {
+            let [number, position] = answer;
+            let figures = [number, position, 0, 0];
+            assert_eq!(written(codec, vertices, lists, 0), figures, "{lists:?}");
+            assert_eq!(written(codec, vertices, lists, 64), figures, "{lists:?}");
+        }
+        let good = [tails, heads, free, &[0, 7]];
+        assert_eq!(written(codec, 3, good, 9), [11, 0, 0, 0]);
+        assert_eq!(written(codec, 3, good, 10), [0, 0, 10, 0]);
+        assert_eq!(written(codec, 1, [&[]; 4], 1), [11, 0, 0, 0]);
+        assert_eq!(written(codec, 1, [&[]; 4], 2), [0, 0, 2, 0]);
     });
 }
 

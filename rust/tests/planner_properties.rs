@@ -271,6 +271,44 @@ fn every_barred_number() {
     }
 }
 
+/// What a job's call leaves that depends on the search alone: figures, route,
+/// log, and the vertices in work memory, of a plan of V vertices and M edges.
+fn searched(planner: &dyn Planner, job: &Job, (vertices, edges): (usize, usize)) -> [Vec<u32>; 4] {
+    let outcome = planners::run(planner, job, 8);
+    let state = GUARD + vertices + 1 + 3 * edges;
+    [
+        outcome.figures.map(|figure| figure as u32).to_vec(),
+        outcome.route,
+        outcome.log,
+        outcome.work[state..state + 4 * vertices].to_vec(),
+    ]
+}
+
+/// A search goes as if barred edges were not there, and as if all others were
+/// of one class.
+#[test]
+fn barred_edges_are_as_if_they_were_not_there() {
+    for planner in BOTH {
+        let (mut fewer, mut count) = (0, 0);
+        jobs::valid_jobs(48, 4_000, &mut |plan, job| {
+            let vertices = plan.vertices as usize;
+            let left = searched(planner, job, (vertices, plan.edges()));
+            let mut other = plan.with_edges(|edge| is_permitted(job.barred, plan.classes[edge]));
+            other.classes.fill(3);
+            let mut without = job.clone();
+            (without.bytes, without.barred) = (other.bytes(), 0);
+            let right = searched(planner, &without, (vertices, other.edges()));
+            assert_eq!(left, right, "{job:?}");
+            fewer += u64::from(other.edges() < plan.edges());
+            count += 1;
+        });
+        assert!(
+            fewer >= 4_000 && count - fewer >= 4_000,
+            "{fewer} of {count}"
+        );
+    }
+}
+
 /// Work memory of 5V+1+3M words is enough, and one word less is not.
 #[test]
 fn work_memory_is_exact() {
