@@ -311,6 +311,107 @@ impl Faulty {
     }
 }
 
+/// V and M of a call's plan, or 0.
+fn counts(request: &Request) -> (usize, usize) {
+    let (vertices, edges) = reference::check_plan(request.bytes).unwrap_or((0, 0));
+    (vertices as usize, edges as usize)
+}
+
+/// Faults of lent memory, after a call with these figures.
+impl Faulty {
+    fn spoil_route(&self, request: &Request, figures: Figures, route: &mut [u32], old: &[u32]) {
+        let (vertices, _) = counts(request);
+        let [ending, _, _, _, length, ..] = figures;
+        let length = length as usize;
+        match (self.0, ending) {
+            (Border::RouteRest, 0) => route[length..].copy_from_slice(&old[length..]),
+            (Border::RouteBeyond, 0) => route[vertices..].fill(NONE),
+            (Border::RouteWithout, 1 | 2) => route[..vertices].fill(NONE),
+            _ => {}
+        }
+    }
+
+    fn spoil_log(&self, request: &Request, figures: Figures, log: &mut [u32]) {
+        let [ending, .., turns, _] = figures;
+        let turns = turns as usize;
+        if ending == 3 {
+            return;
+        }
+        match self.0 {
+            Border::LogTable => {
+                for word in log.iter_mut().take(turns) {
+                    *word += 65_536;
+                }
+            }
+            Border::LogLast if turns > log.len() => {
+                if let Some(word) = log.last_mut() {
+                    *word = request.start;
+                }
+            }
+            Border::LogBeyond => {
+                if let Some(word) = log.get_mut(turns) {
+                    *word = 0;
+                }
+            }
+            _ => {}
+        }
+    }
+
+    /// Edges in work memory, and what stands around it.
+    fn spoil_edges(&self, request: &Request, figures: Figures, work: &mut [u32], old: &[u32]) {
+        let (vertices, edges) = counts(request);
+        let [heads, costs, classes, state] = [0, 1, 2, 3].map(|list| vertices + 1 + list * edges);
+        let [ending, number, ..] = figures;
+        match (self.0, ending) {
+            (Border::FirstEdges, 0..=2) => work[heads - 1] = old[heads - 1],
+            (Border::SwappedClasses, 0..=2) => {
+                let (front, behind) = work.split_at_mut(classes);
+                front[costs..].swap_with_slice(&mut behind[..edges]);
+            }
+            (Border::BarredClasses, 0..=2) => {
+                for class in &mut work[classes..state] {
+                    if request.barred >> *class & 1 == 1 {
+                        *class = NONE;
+                    }
+                }
+            }
+            (Border::WorkBeyond, 0..=2) => {
+                if let Some(word) = work.get_mut(state + 4 * vertices) {
+                    *word = 0;
+                }
+            }
+            (Border::WorkAtRefusal, 3) if [12, 13].contains(&number) => work[0] = 0,
+            _ => {}
+        }
+    }
+
+    /// Vertices in work memory.
+    fn spoil_vertices(&self, request: &Request, figures: Figures, work: &mut [u32]) {
+        if figures[0] == 3 {
+            return;
+        }
+        let (vertices, edges) = counts(request);
+        let first = vertices + 1 + 3 * edges;
+        // A fault of the memory's length may have let a shorter one pass.
+        let Some(state) = work.get_mut(first..first + 4 * vertices) else {
+            return;
+        };
+        let (words, _) = state.as_chunks_mut();
+        for (vertex, [_, expanded, predecessor, marks]) in words.iter_mut().enumerate() {
+            match self.0 {
+                Border::SwappedMarks => {
+                    *marks = *marks & 12 | (*marks & 1) << 1 | (*marks & 2) >> 1;
+                }
+                Border::NeverExpanded if *expanded == NONE => *expanded = 0,
+                Border::StartPredecessor if vertex as u32 == request.start => {
+                    *predecessor = request.start;
+                }
+                _ => {}
+            }
+        }
+    }
+}
+
 impl Planner for Faulty {
     fn plan(&self, request: &Request, memory: Memory) -> Figures {
         let Memory { route, log, work } = memory;
@@ -326,73 +427,19 @@ impl Planner for Faulty {
             log.copy_from_slice(&before.1);
             work.copy_from_slice(&before.2);
         }
-        let (vertices, edges) = reference::check_plan(request.bytes).unwrap_or((0, 0));
-        let (vertices, edges) = (vertices as usize, edges as usize);
-        let mut figures = answer.figures();
-        let [ending, number, position, _, length, _, turns, _] = figures;
-        let (length, turns) = (length as usize, turns as usize);
-        let places = vertices + 1 + 3 * edges;
-        let (costs, classes) = (vertices + 1 + edges, vertices + 1 + 2 * edges);
+        let figures = answer.figures();
+        self.spoil_route(request, figures, route, &before.0);
+        self.spoil_log(request, figures, log);
+        self.spoil_edges(request, figures, work, &before.2);
+        self.spoil_vertices(request, figures, work);
+        let [ending, number, position, rest @ ..] = figures;
+        let [cost, length, rounds, turns, _] = rest;
         match (self.0, ending) {
-            (Border::UnusedFigure, 1 | 2) => figures[7] = 10_000,
-            (Border::LengthInEdges, 0) => figures[4] -= 1,
-            (Border::SwappedRefusal, 3) => figures = [3, position, number, 0, 0, 0, 0, 0],
-            (Border::RouteRest, 0) => {
-                route[length..].copy_from_slice(&before.0[length..]);
-            }
-            (Border::RouteBeyond, 0) => route[vertices..].fill(NONE),
-            (Border::RouteWithout, 1 | 2) => route[..vertices].fill(NONE),
-            (Border::LogTable, 0..=2) => {
-                for word in log.iter_mut().take(turns) {
-                    *word += 65_536;
-                }
-            }
-            (Border::LogLast, 0..=2) if turns > log.len() => {
-                if let Some(word) = log.last_mut() {
-                    *word = request.start;
-                }
-            }
-            (Border::LogBeyond, 0..=2) => {
-                if let Some(word) = log.get_mut(turns) {
-                    *word = 0;
-                }
-            }
-            (Border::FirstEdges, 0..=2) => work[vertices] = before.2[vertices],
-            (Border::SwappedClasses, 0..=2) => {
-                let (front, behind) = work.split_at_mut(classes);
-                front[costs..].swap_with_slice(&mut behind[..edges]);
-            }
-            (Border::BarredClasses, 0..=2) => {
-                for class in &mut work[classes..places] {
-                    if request.barred >> *class & 1 == 1 {
-                        *class = NONE;
-                    }
-                }
-            }
-            (Border::SwappedMarks, 0..=2) => {
-                for marks in work[places..][..4 * vertices].iter_mut().skip(3).step_by(4) {
-                    *marks = *marks & 12 | (*marks & 1) << 1 | (*marks & 2) >> 1;
-                }
-            }
-            (Border::NeverExpanded, 0..=2) => {
-                for expanded in work[places..][..4 * vertices].iter_mut().skip(1).step_by(4) {
-                    if *expanded == NONE {
-                        *expanded = 0;
-                    }
-                }
-            }
-            (Border::StartPredecessor, 0..=2) => {
-                work[places + 4 * request.start as usize + 2] = request.start;
-            }
-            (Border::WorkBeyond, 0..=2) => {
-                if let Some(word) = work.get_mut(places + 4 * vertices) {
-                    *word = 0;
-                }
-            }
-            (Border::WorkAtRefusal, 3) if number >= 12 => work[0] = 0,
-            _ => {}
+            (Border::UnusedFigure, 1 | 2) => [ending, 0, 0, 0, 0, 0, turns, 10_000],
+            (Border::LengthInEdges, 0) => [0, 0, 0, cost, length - 1, rounds, turns, rest[4]],
+            (Border::SwappedRefusal, 3) => [3, position, number, 0, 0, 0, 0, 0],
+            _ => figures,
         }
-        figures
     }
 
     fn bench_text(&self, job: &[u8], text: &mut [u8]) -> usize {

@@ -111,6 +111,38 @@ const FAULTS: [Fault; 31] = [
 
 struct Faulty(Fault);
 
+/// Whether lists of so much room are too short for a plan.
+fn is_short(bytes: &[u8], room: [usize; 4]) -> bool {
+    let mut lists = room.map(|room| vec![0; room]);
+    let [tails, heads, costs, classes] = &mut lists;
+    Reference.read_plan(bytes, tails, heads, costs, classes)[0] == 11
+}
+
+impl Faulty {
+    /// The lists that are written in place of refused ones.
+    fn other_lists(&self, lists: [&[u32]; 4], number: u64) -> Option<[Vec<u32>; 4]> {
+        let edges = lists.map(<[u32]>::len);
+        let mut other = lists.map(<[u32]>::to_vec);
+        let [_, _, _, classes] = &mut other;
+        match self.0 {
+            Fault::UnequalLists if number == 3 => {
+                let least = edges.into_iter().min().unwrap_or(0);
+                other = lists.map(|list| list[..least].to_vec());
+            }
+            Fault::UnequalClasses if number == 3 && edges[3] < edges[0] => {
+                classes.resize(edges[0], 0);
+            }
+            Fault::WriterClassLimit if number == 15 => {
+                for class in classes.iter_mut().filter(|class| **class == 8) {
+                    *class = 7;
+                }
+            }
+            _ => return None,
+        }
+        Some(other)
+    }
+}
+
 impl Codec for Faulty {
     fn read_plan_number(&self, bytes: &[u8], at: usize) -> Figures {
         let answer = Reference.read_plan_number(bytes, at);
@@ -213,13 +245,9 @@ impl Codec for Faulty {
         let edges = answer[3] as usize;
         match self.0 {
             Fault::ListsBeforeEnd if answer[0] == 7 => {
-                let before = &bytes[..answer[1] as usize];
-                let mut lists = [tails.len(), heads.len(), costs.len(), classes.len()]
-                    .map(|room| vec![0; room]);
-                let [tails, heads, costs, classes] = &mut lists;
-                let shorter = Reference.read_plan(before, tails, heads, costs, classes);
-                if shorter[0] == 11 {
-                    return shorter;
+                let room = [tails.len(), heads.len(), costs.len(), classes.len()];
+                if is_short(&bytes[..answer[1] as usize], room) {
+                    return [11, 0, 0, 0];
                 }
             }
             Fault::ListsAtRefusal if answer[0] > 0 => {
@@ -237,7 +265,9 @@ impl Codec for Faulty {
             Fault::ShortClasses if answer[0] == 11 => {
                 let mut longer = vec![0; 40_000];
                 let other = Reference.read_plan(bytes, tails, heads, costs, &mut longer);
-                classes.copy_from_slice(&longer[..classes.len()]);
+                if other[0] == 0 {
+                    classes.copy_from_slice(&longer[..classes.len()]);
+                }
                 return other;
             }
             _ => {}
@@ -256,23 +286,11 @@ impl Codec for Faulty {
     ) -> Figures {
         let answer = Reference.write_plan(vertices, tails, heads, costs, classes, out);
         let [number, position, count, _] = answer;
+        if let Some(lists) = self.other_lists([tails, heads, costs, classes], number) {
+            let [tails, heads, costs, classes] = lists;
+            return Reference.write_plan(vertices, &tails, &heads, &costs, &classes, out);
+        }
         match self.0 {
-            Fault::UnequalLists if number == 3 => {
-                let lists = [tails, heads, costs, classes];
-                let edges = lists.map(<[u32]>::len).into_iter().min().unwrap_or(0);
-                let [tails, heads, costs, classes] = lists.map(|list| &list[..edges]);
-                return Reference.write_plan(vertices, tails, heads, costs, classes, out);
-            }
-            Fault::UnequalClasses if number == 3 && classes.len() < tails.len() => {
-                let mut classes = classes.to_vec();
-                classes.resize(tails.len(), 0);
-                return Reference.write_plan(vertices, tails, heads, costs, &classes, out);
-            }
-            Fault::WriterClassLimit if number == 15 => {
-                let lower = |&class: &u32| if class == 8 { 7 } else { class };
-                let classes: Vec<u32> = classes.iter().map(lower).collect();
-                return Reference.write_plan(vertices, tails, heads, costs, &classes, out);
-            }
             Fault::WriterClassBeforeCost if number == 5 && classes[position as usize] > 7 => {
                 return [15, position, 0, 0];
             }
