@@ -72,8 +72,16 @@
 extern "C" {
 #endif
 
-/* The version of this interface: it rises when a declaration changes, or
- * what a number or a word of memory means. */
+/*
+ * The version of this interface: it rises when a declaration changes, or
+ * what a number or a word of memory means.
+ *
+ * Version 2: lanes have classes, a fourth number in plan bytes, a fourth list
+ * to read and write, and M words more in work memory; a planner call and a
+ * bench job have a barred number after the goal, and refusal 8, now
+ * SECONDCOOP_BAD_ENDS_OR_BARRED, covers it. Plan bytes of version 1 have to
+ * be written anew.
+ */
 #define SECONDCOOP_VERSION 2
 
 /* Limits of a plan and of a call. */
