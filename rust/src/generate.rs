@@ -166,7 +166,7 @@ impl Plan {
         self.encode().0
     }
 
-    /// The plan that lists have in valid bytes.
+    /// The plan that valid bytes hold.
     pub fn of_bytes(bytes: &[u8]) -> Plan {
         let mut plan = Plan::without_edges(0);
         let (vertices, _) = reference::walk_plan(bytes, |_, edge| {

@@ -1,7 +1,7 @@
 //! Seeded jobs for the planner: tiny graphs, ladders, grids, zero costs,
-//! self-edges, hostile and constant sheets, budgets around the ends of
-//! rounds, start = goal, no walk to the goal, and jobs damaged for each
-//! refusal.
+//! self-edges, barred classes, hostile and constant sheets, budgets around
+//! the ends of rounds, start = goal, no walk to the goal, and jobs damaged for
+//! each refusal.
 
 use std::collections::BTreeMap;
 

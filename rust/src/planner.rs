@@ -512,6 +512,68 @@ impl<O: Onlooker> Search<'_, O> {
         self.turns += 1;
     }
 
+    /// Whether step 1 finishes a round, m being the anchor's least key.
+    fn is_finished(&self, m: u64, factors: Factors) -> bool {
+        let [goal_cost, ..] = self.vertices[self.goal];
+        let factor = match self.onlooker.has(Fault::FinishByW1) {
+            true => factors.w1,
+            false => factors.w2,
+        };
+        let strict = u64::from(self.onlooker.has(Fault::FinishStrict));
+        goal_cost != NONE && 10_000 * u64::from(goal_cost) + strict <= factor * m
+    }
+
+    /// The least key of the guide with the turn, and its vertex.
+    fn guide_line(&self, guide: usize, w1: u64) -> Option<(u64, usize)> {
+        if self.guide_count == 0 {
+            return None;
+        }
+        let without = match self.onlooker.has(Fault::GuideMarkIgnored) {
+            true => 0,
+            false => GUIDE_MARK,
+        };
+        self.least(self.guide(guide), w1, without)
+    }
+
+    /// A turn: a vertex is marked, noted and expanded for a table.
+    fn take_turn(&mut self, round: u32, table: usize, vertex: usize, no_line: bool) {
+        let [g, _, _, marks] = &mut self.vertices[vertex];
+        *marks |= if table > 0 { GUIDE_MARK } else { ANCHOR_MARK };
+        let (g, turn) = (*g, self.turns + 1);
+        self.onlooker.observe(|| Event::Turn {
+            round,
+            turn,
+            table: table as u32,
+            vertex: vertex as u32,
+            g,
+            no_line,
+        });
+        self.note_turn(table, vertex);
+        self.expand(vertex, table);
+    }
+
+    /// The guide that follows after a turn of a table.
+    fn guide_after(&self, guide: usize, table: usize) -> usize {
+        if table == 0 && self.onlooker.has(Fault::GuideStays) {
+            return guide;
+        }
+        if guide >= self.guide_count {
+            1
+        } else {
+            guide + 1
+        }
+    }
+
+    /// Nothing is open any more.
+    fn no_route(&mut self, round: u32) -> End {
+        let held = |[_, _, _, marks]: &&Vertex| marks & HELD != 0;
+        let held = self.vertices.iter().filter(held).count() as u32;
+        let turns = self.turns;
+        self.onlooker
+            .observe(|| Event::NoRoute { round, turns, held });
+        End::NoRoute
+    }
+
     /// One round; `None` if it is finished.
     fn round(&mut self, round: u32, factors: Factors) -> Option<End> {
         let mut guide = 1;
@@ -519,72 +581,36 @@ impl<O: Onlooker> Search<'_, O> {
             guide = self.next_guide;
         }
         loop {
-            let turns = self.turns;
             if self.onlooker.has(Fault::BudgetFirst) && self.spent() {
                 return Some(End::Spent);
             }
             // Step 1.
             let Some((m, anchor_choice)) = self.least(self.anchor, factors.w1, 0) else {
-                let held = |[_, _, _, marks]: &&Vertex| marks & HELD != 0;
-                let held = self.vertices.iter().filter(held).count() as u32;
-                self.onlooker
-                    .observe(|| Event::NoRoute { round, turns, held });
-                return Some(End::NoRoute);
+                return Some(self.no_route(round));
             };
-            let [goal_cost, ..] = self.vertices[self.goal];
-            let factor = match self.onlooker.has(Fault::FinishByW1) {
-                true => factors.w1,
-                false => factors.w2,
-            };
-            let strict = u64::from(self.onlooker.has(Fault::FinishStrict));
-            if goal_cost != NONE && 10_000 * u64::from(goal_cost) + strict <= factor * m {
+            if self.is_finished(m, factors) {
                 return None;
             }
             // Step 2.
             if self.spent() {
+                let turns = self.turns;
                 self.onlooker.observe(|| Event::Cut { round, turns });
                 return Some(End::Spent);
             }
             // Step 3.
-            let mut choice = None;
-            let mut no_line = false;
-            if self.guide_count > 0 {
-                let without = match self.onlooker.has(Fault::GuideMarkIgnored) {
-                    true => 0,
-                    false => GUIDE_MARK,
-                };
-                let line = self.least(self.guide(guide), factors.w1, without);
-                no_line = line.is_none();
-                if no_line && self.onlooker.has(Fault::NothingExpanded) {
-                    return Some(End::NoRoute);
-                }
-                let strict = u64::from(self.onlooker.has(Fault::GuideStrict));
-                choice = line.filter(|&(key, _)| 100 * key + strict <= factors.w2 * m);
+            let line = self.guide_line(guide, factors.w1);
+            let no_line = self.guide_count > 0 && line.is_none();
+            if no_line && self.onlooker.has(Fault::NothingExpanded) {
+                return Some(End::NoRoute);
             }
-            let (table, vertex, mark) = match choice {
-                Some((_, vertex)) => (guide, vertex, GUIDE_MARK),
-                None => (0, anchor_choice, ANCHOR_MARK),
+            let strict = u64::from(self.onlooker.has(Fault::GuideStrict));
+            let choice = line.filter(|&(key, _)| 100 * key + strict <= factors.w2 * m);
+            let (table, vertex) = match choice {
+                Some((_, vertex)) => (guide, vertex),
+                None => (0, anchor_choice),
             };
-            let [g, _, _, marks] = &mut self.vertices[vertex];
-            *marks |= mark;
-            let g = *g;
-            self.onlooker.observe(|| Event::Turn {
-                round,
-                turn: turns + 1,
-                table: table as u32,
-                vertex: vertex as u32,
-                g,
-                no_line,
-            });
-            self.note_turn(table, vertex);
-            self.expand(vertex, table);
-            if table > 0 || !self.onlooker.has(Fault::GuideStays) {
-                guide = if guide >= self.guide_count {
-                    1
-                } else {
-                    guide + 1
-                };
-            }
+            self.take_turn(round, table, vertex, no_line);
+            guide = self.guide_after(guide, table);
             self.next_guide = guide;
         }
     }
@@ -679,7 +705,7 @@ pub fn plan_observed(
 
 fn plan_with<O: Onlooker>(request: &Request, memory: Memory, onlooker: O) -> Answer {
     let room = (memory.route.len(), memory.work.len());
-    let (vertices, edges) = match admitted(request, room, &onlooker) {
+    let counts = match admitted(request, room, &onlooker) {
         Ok(counts) => counts,
         Err(Refusal { number, position }) => return Answer::Refused { number, position },
     };
@@ -687,7 +713,7 @@ fn plan_with<O: Onlooker>(request: &Request, memory: Memory, onlooker: O) -> Ans
         [] => &HOUSE_SCHEDULE,
         schedule => schedule,
     };
-    let mut search = loaded(request, memory, (vertices, edges), onlooker);
+    let mut search = loaded(request, memory, counts, onlooker);
     let end = search.run(schedule);
     let turns = search.turns;
     match end {
