@@ -130,6 +130,10 @@ impl Seen {
 impl Events {
     /// All counts with their names.
     pub fn names(&self) -> Vec<(&'static str, u64)> {
+        [self.of_searches(), self.of_jobs()].concat()
+    }
+
+    fn of_searches(&self) -> Vec<(&'static str, u64)> {
         vec![
             ("cheaper later", self.cheaper_later),
             ("equal later", self.equal_later),
@@ -151,9 +155,17 @@ impl Events {
             ("end with the budget spent", self.end_with_budget_spent),
             ("finish without a turn", self.finish_without_turn),
             ("all rounds finished", self.all_rounds),
-            ("start is goal", self.start_is_goal),
             ("walk of cost 0", self.free_walk),
             ("log full", self.log_full),
+            ("barred edge at hand", self.barred_at_hand),
+            ("barred edge would be cheaper", self.barred_cheaper),
+            ("only barred edges lead on", self.barred_only),
+        ]
+    }
+
+    fn of_jobs(&self) -> Vec<(&'static str, u64)> {
+        vec![
+            ("start is goal", self.start_is_goal),
             ("all costs 0", self.zero_costs),
             ("self-edge", self.self_edge),
             ("constant sheet", self.constant_sheet),
@@ -165,9 +177,6 @@ impl Events {
             ("house schedule", self.house_schedule),
             ("edges of eight classes", self.eight_classes),
             ("all classes barred", self.all_barred),
-            ("barred edge at hand", self.barred_at_hand),
-            ("barred edge would be cheaper", self.barred_cheaper),
-            ("only barred edges lead on", self.barred_only),
         ]
     }
 
