@@ -16,7 +16,7 @@ use Rattle.leb128.proofs.Write.{room}
 use Rattle.graph.specs.declared.Edge.{Edge}
 use Rattle.graph.specs.Lists.{edgesOf, edgeBytes, edgesBytes}
 use Rattle.plan_writer.specs.Writing.{Equal, edgeAt, LayableEdge, Layable, EdgeFits, EdgesFit}
-use Rattle.plan_writer.proofs.Measuring.{edge-length, rest, rest-is, rest-end}
+use Rattle.plan_writer.proofs.Measuring.{edge-length, class-byte, rest, rest-is, rest-end}
 
 -- ---- bytes laid one after another
 
@@ -100,17 +100,26 @@ module _ {s : List ℕ} {at t : ℕ} {e : Edge} (f : EdgeFits s at t e) where
         length-append toHead (encode planGroups (e .cost)),
       )
 
-  all-bytes : toCost ++ encode planGroups (e .class) ≡ edgeBytes t e
+  -- the class after them, in one byte
+  all-bytes : edgeBytes t e ≡ toCost ++ (e .class ∷ [])
   unfolding edgeBytes
-  all-bytes = simp append-assoc
+  all-bytes = rw (class-byte (e .class) (f .layable .class)) (simp append-assoc)
 
-  pub class-room : at + length (toCost ++ encode planGroups (e .class)) ≤ length s
-  class-room = rw all-bytes (f .room)
+  all-length : length (edgeBytes t e) ≡ length toCost + 1
+  all-length = ap length all-bytes ∙ length-append toCost (e .class ∷ [])
 
-  pub edge-laid :
-      {s′ : List ℕ} {n : ℕ} → Laid s at (toCost ++ encode planGroups (e .class)) s′ n →
-      (n ≡ at + length (edgeBytes t e)) × (s′ ≡ sets s at (edgeBytes t e))
-  edge-laid d = (d .offset ∙ ap (λ (l : List ℕ). at + length l) all-bytes, d .memory ∙ ap (sets s at) all-bytes)
+  module _ {s′ : List ℕ} {n : ℕ} (d : Laid s at toCost s′ n) where
+    pub class-room : n < length s′
+    class-room = omega (arith, f .room, all-length, d .offset, ap length (d .memory), length-sets s at toCost)
+
+    pub edge-laid : (n + 1 ≡ at + length (edgeBytes t e)) × (set s′ n (e .class) ≡ sets s at (edgeBytes t e))
+    edge-laid = (
+      omega (arith, all-length, d .offset),
+      ap (λ (l : List ℕ). set l n (e .class)) (d .memory)
+          ∙ ap (λ (k : ℕ). set (sets s at toCost) k (e .class)) (d .offset)
+          ∙ sym (sets-append s at toCost (e .class ∷ []))
+          ∙ ap (sets s at) (sym all-bytes),
+    )
 
 -- ---- all edges laid
 

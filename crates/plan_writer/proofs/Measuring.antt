@@ -81,11 +81,14 @@ unfolding edgeBytes
 edge-length t e = simp length-append (omega arith)
 
 -- a class has one byte
+pub class-byte : (k : ℕ) → k ≤ maxClass → encode planGroups k ≡ k ∷ []
+unfolding planGroups
+class-byte k h = encode-last 2 k (omega arith)
+
 pub edge-few : (t : ℕ) (e : Edge) → e .class ≤ maxClass → length (edgeBytes t e) ≤ 10
 unfolding planGroups
 edge-few t e k =
-    let one : length (encode planGroups (e .class)) ≡ 1 = ap length (encode-last 2 (e .class) (omega arith)) in
-    omega (arith, edge-length t e, encode-few 3 (e .tail - t), encode-few 3 (e .head), encode-few 3 (e .cost))
+    omega (arith, edge-length t e, ap length (class-byte (e .class) k), encode-few 3 (e .tail - t), encode-few 3 (e .head), encode-few 3 (e .cost))
 
 module _ (v : ℕ) (c : Cursor) (i : ℕ) (e : Edge) where
   pub tail-refused : v ≤ e .tail → edgeRead.Refused 4 i ≡ edgeMeasured v c i e
@@ -111,13 +114,13 @@ module _ (v : ℕ) (c : Cursor) (i : ℕ) (e : Edge) where
       simp (lt-leb v (e .tail) t, lt-leb v (e .head) h, f, le-ltb maxCost (e .cost) k, lt-ltb maxClass (e .class) l)
 
   pub edge-passed :
-      (w x y z : ℕ) → w ≡ length (encode planGroups (e .tail - c .tail)) → x ≡ length (encode planGroups (e .head)) →
-      y ≡ length (encode planGroups (e .cost)) → z ≡ length (encode planGroups (e .class)) →
+      (w x y : ℕ) → w ≡ length (encode planGroups (e .tail - c .tail)) → x ≡ length (encode planGroups (e .head)) →
+      y ≡ length (encode planGroups (e .cost)) →
       e .tail < v → e .head < v → falls c e ≡ false → e .cost ≤ maxCost → e .class ≤ maxClass →
-      Next e (record { at = c .at + (w + x + y + z); tail = e .tail; least = e .head + 1 }) ≡ edgeMeasured v c i e
+      Next e (record { at = c .at + (w + x + y + 1); tail = e .tail; least = e .head + 1 }) ≡ edgeMeasured v c i e
   unfolding edgeMeasured edgeRows through falls past
-  edge-passed w x y z o p q r t h f k l =
-      let n : w + x + y + z ≡ length (edgeBytes (c .tail) e) = omega (arith, edge-length (c .tail) e) in
+  edge-passed w x y o p q t h f k l =
+      let n : w + x + y + 1 ≡ length (edgeBytes (c .tail) e) = omega (arith, edge-length (c .tail) e, ap length (class-byte (e .class) l)) in
       simp (lt-leb v (e .tail) t, lt-leb v (e .head) h, f, le-ltb maxCost (e .cost) k, le-ltb maxClass (e .class) l, n)
 
 -- ---- the edges of four lists, one by one

@@ -108,7 +108,7 @@ passed-layable v t l e few p =
       tail = omega (arith, w .tail);
       head = omega (arith, w .head);
       cost = omega (arith, w .cost);
-      class = omega (arith, w .class);
+      class = w .class;
     }
 
 pub passed-edges : (v : ℕ) → v ≤ maxVertices → (es : List Edge) (t l i : ℕ) → edgesFault v t l i es ≡ none → Layable t es

@@ -15,6 +15,7 @@ use Rattle.graph.specs.declared.PlanWritten.{PlanWritten}
 use Rattle.graph.specs.declared.PlanWritten.the-variants.{Count}
 use Rattle.graph.specs.declared.PlanWritten.the-variants as planWritten
 use Rattle.graph.specs.Rows.{through}
+use Rattle.graph.specs.Limits.{maxClass}
 use Rattle.graph.specs.Plan.{past}
 use Rattle.graph.specs.Lists.{Fault as Found, none, fault, edgesOf, edgeRows, edgesFault, writeFault, edgeBytes, edgesBytes, bytesOf}
 
@@ -56,7 +57,7 @@ pub record LayableEdge (last : ℕ) (e : Edge) : Type 0 where
   pub tail : e .tail < 128 ^ planGroups
   pub head : e .head < 128 ^ planGroups
   pub cost : e .cost < 128 ^ planGroups
-  pub class : e .class < 128 ^ planGroups
+  pub class : e .class ≤ maxClass
 
 abbrev pub Layable : ℕ → List Edge → Type 0
 Layable last [] = Unit {0}

@@ -2,9 +2,9 @@
 // The cursor is the reader's: the bytes so far, and what the next edge must rise above.
 ghost use mathlib.Core.Path.{_≡_};
 ghost use Prim.Native.Nat.{_+_, _<_, _≤_};
-ghost use lib.ListN.{length};
+ghost use lib.ListN.{length, set};
 ghost use lib.Seq.{sets};
-ghost use Rattle.graph.specs.Limits.{maxEdges};
+ghost use Rattle.graph.specs.Limits.{maxEdges, maxClass};
 ghost use Rattle.graph.specs.Plan.{firstAt};
 ghost use Rattle.graph.specs.Lists.{over, edgesOf, edgeBytes, edgesBytes, bytesOf, writeAnswer, outAfter};
 ghost use Rattle.plan_writer.specs.Writing.{edgeAt, Equal, falls, edgeMeasured, edgesMeasured, planMeasured, EdgeFits, EdgesFit, PlanFits};
@@ -45,7 +45,7 @@ fn falls_behind(cursor: Cursor, edge: Edge) -> bool
     found < least
 }
 
-// The edge number i through its rows, and the cursor past its bytes.
+// The edge number i through its rows, and the cursor past its bytes: its class has one.
 fn measure_edge(vertices: u32, cursor: Cursor, i: usize, edge: Edge) -> EdgeRead
     requires { ⌜ cursor .at ≤ 4294967295 ⌝ }
     ensures { λ r. ⌜ r ≡ edgeMeasured vertices cursor i edge ⌝ }
@@ -69,7 +69,7 @@ fn measure_edge(vertices: u32, cursor: Cursor, i: usize, edge: Edge) -> EdgeRead
     let size = rise
         + leb128_writer::plan_number_len(edge.head)
         + leb128_writer::plan_number_len(edge.cost)
-        + leb128_writer::plan_number_len(edge.class);
+        + 1;
     let past = Cursor {
         at: cursor.at + size,
         tail: edge.tail,
@@ -140,6 +140,16 @@ fn measure(
     measure_edges(vertices, tails, heads, costs, classes, start)
 }
 
+// Writes a class, in its one byte, and gives the offset past it.
+fn lay_class(out: &mut [u8], at: usize, class: u32) -> usize
+    requires { ⌜ (at < length (now out)) × (class ≤ maxClass) ⌝ }
+    ensures { λ r. ⌜ r ≡ at + 1 ⌝ }
+    ensures { λ _. ⌜ now (out .exit) ≡ set (now (out .entry)) at class ⌝ }
+{
+    out[at] = class as u8;
+    at + 1
+}
+
 // Writes an edge's bytes after an edge with this tail, and gives the offset past them.
 fn lay_edge(out: &mut [u8], at: usize, tail: u32, edge: Edge) -> usize
     requires { ⌜ EdgeFits (now out) at tail edge ⌝ }
@@ -158,11 +168,7 @@ fn lay_edge(out: &mut [u8], at: usize, tail: u32, edge: Edge) -> usize
     else {
         return at;
     };
-    let NumberWritten::Next(end) = leb128_writer::write_plan_number(out, class_at, edge.class)
-    else {
-        return at;
-    };
-    end
+    lay_class(out, class_at, edge.class)
 }
 
 // Writes the bytes of all edges from `start` on.

@@ -1,4 +1,5 @@
--- `lay_edge` meets its contract: its four numbers are written one after another, since each has a form and there is room.
+-- `lay_edge` meets its contract: three numbers and the class are written one after another, since each has a form and there is room.
+use mathlib.Core.Path.{_∙_}
 use Rattle.plan_writer.proofs.Laying.{laid-none, laid-never, laid-number, rise-small, rise-room, head-room, cost-room, class-room, edge-laid}
 use borrow.Author.Needs.{needs}
 use Rattle.plan_writer.proofs.lay_edge.Statement.{statement}
@@ -58,18 +59,26 @@ returns-3 c =
     let h = laid-number r (p .layable .head) (head-room p) (w2 .write-plan-number2 .ensures) (n2 .cost-at .given .1) in
     absurd (laid-never h (p .layable .cost) (cost-room p) (c .before .before .before .write-plan-number3 .ensures) (c .match3 .keys2))
 
-write-plan-number-requires-4 : tie.Need-write-plan-number-requires-4
-write-plan-number-requires-4 c κs = search needs
-
-enum-known-end : tie.Need-enum-known-end
-enum-known-end c = search needs
+lay-class-requires : tie.Need-lay-class-requires
+lay-class-requires c κs =
+    let n3 = c .before .before in
+    let w3 = n3 .before .before .before .before in
+    let n2 = w3 .before .before .before in
+    let w2 = n2 .before .before .before .before in
+    let n = w2 .before .before .before in
+    let w = n .before .before .before .before in
+    let p = w .before .before .before .before .pre in
+    let r = laid-number (laid-none _ _) (rise-small p) (rise-room p) (w .write-plan-number .ensures) (n .head-at .given .1) in
+    let h = laid-number r (p .layable .head) (head-room p) (w2 .write-plan-number2 .ensures) (n2 .cost-at .given .1) in
+    (class-room p (laid-number h (p .layable .cost) (cost-room p) (w3 .write-plan-number3 .ensures) (n3 .class-at .given .1)), p .layable .class)
 
 same-length-4 : tie.Need-same-length-4
 same-length-4 c = search needs
 
 returns-4 : tie.Need-returns-4
 returns-4 c =
-    let n3 = c .before .before .before .before .before .before in
+    let l = c .before .before .lay-class .ensures in
+    let n3 = c .before .before .before .before .before in
     let w3 = n3 .before .before .before .before in
     let n2 = w3 .before .before .before in
     let w2 = n2 .before .before .before .before in
@@ -78,25 +87,8 @@ returns-4 c =
     let p = w .before .before .before .before .pre in
     let r = laid-number (laid-none _ _) (rise-small p) (rise-room p) (w .write-plan-number .ensures) (n .head-at .given .1) in
     let h = laid-number r (p .layable .head) (head-room p) (w2 .write-plan-number2 .ensures) (n2 .cost-at .given .1) in
-    let x = laid-number h (p .layable .cost) (cost-room p) (w3 .write-plan-number3 .ensures) (n3 .class-at .given .1) in
-    absurd (laid-never x (p .layable .class) (class-room p) (c .before .before .before .write-plan-number4 .ensures) (c .match4 .keys2))
-
-same-length-5 : tie.Need-same-length-5
-same-length-5 c = search needs
-
-returns-5 : tie.Need-returns-5
-returns-5 c =
-    let n3 = c .before .before .before .before .before .before .before .before in
-    let w3 = n3 .before .before .before .before in
-    let n2 = w3 .before .before .before in
-    let w2 = n2 .before .before .before .before in
-    let n = w2 .before .before .before in
-    let w = n .before .before .before .before in
-    let p = w .before .before .before .before .pre in
-    let r = laid-number (laid-none _ _) (rise-small p) (rise-room p) (w .write-plan-number .ensures) (n .head-at .given .1) in
-    let h = laid-number r (p .layable .head) (head-room p) (w2 .write-plan-number2 .ensures) (n2 .cost-at .given .1) in
-    let x = laid-number h (p .layable .cost) (cost-room p) (w3 .write-plan-number3 .ensures) (n3 .class-at .given .1) in
-    edge-laid p (laid-number x (p .layable .class) (class-room p) (c .before .before .before .before .before .write-plan-number4 .ensures) (c .before .end .given .1))
+    let e = edge-laid p (laid-number h (p .layable .cost) (cost-room p) (w3 .write-plan-number3 .ensures) (n3 .class-at .given .1)) in
+    (l .0 ∙ e .0, l .1 ∙ e .1)
 
 pub lay-edge-spec : {M : Type 1} → statement M
 lay-edge-spec =
@@ -115,9 +107,6 @@ lay-edge-spec =
     enum-known-class-at
     same-length-3
     returns-3
-    write-plan-number-requires-4
-    enum-known-end
+    lay-class-requires
     same-length-4
-    returns-4
-    same-length-5
-    returns-5)
+    returns-4)

@@ -1,4 +1,4 @@
--- `measure_edge` meets its contract: row by row, then the lengths of its four numbers.
+-- `measure_edge` meets its contract: row by row, then the lengths of its numbers.
 use native.Mathlib.Omega.{arith}
 use mathlib.Core.Path.{sym, _∙_}
 use Rattle.plan_writer.proofs.Measuring.{edge-length, edge-few, tail-refused, head-refused, order-refused, cost-refused, class-refused, edge-passed, not-falling}
@@ -52,18 +52,15 @@ add-size-2 c =
     let a = j .before .before .before .before .before .before .before .before .before .before .args in
     omega (arith, edge-length (a .cursor .tail) (a .edge), edge-few (a .cursor .tail) (a .edge) (j .if5 .left))
 
-plan-number-len-requires-4 : tie.Need-plan-number-len-requires-4
-plan-number-len-requires-4 c κs = search needs
-
 add-size-3 : tie.Need-add-size-3
 add-size-3 c =
-    let j = c .before .before .before .before .before .before in
+    let j = c .before .before .before .before .before in
     let a = j .before .before .before .before .before .before .before .before .before .before .args in
     omega (arith, edge-length (a .cursor .tail) (a .edge), edge-few (a .cursor .tail) (a .edge) (j .if5 .left))
 
 add-t11 : tie.Need-add-t11
 add-t11 c =
-    let j = c .before .before .before .before .before .before .before in
+    let j = c .before .before .before .before .before .before in
     let a = j .before .before .before .before .before .before .before .before .before .before .args in
     omega (arith, edge-length (a .cursor .tail) (a .edge), edge-few (a .cursor .tail) (a .edge) (j .if5 .left))
 
@@ -72,10 +69,10 @@ add-t10 c = search needs
 
 returns-6 : tie.Need-returns-6
 returns-6 c =
-    let j = c .before .before .before .before .before .before .before .before in
+    let j = c .before .before .before .before .before .before .before in
     let k = j .before .before .before .before in
-    edge-passed _ _ _ _ _ _ _ _
-    (c .before .before .before .before .before .plan-number-len .ensures) (c .before .before .before .before .plan-number-len2 .ensures) (c .before .before .before .plan-number-len3 .ensures) (c .before .before .plan-number-len4 .ensures)
+    edge-passed _ _ _ _ _ _ _
+    (c .before .before .before .before .plan-number-len .ensures) (c .before .before .before .plan-number-len2 .ensures) (c .before .before .plan-number-len3 .ensures)
     (k .before .before .before .before .if1 .left) (k .before .before .if2 .left) (sym (k .before .falls-behind .ensures) ∙ k .if3 .left) (j .before .before .if4 .left) (j .if5 .left)
 
 pub measure-edge-spec : {M : Type 1} → statement M
@@ -94,7 +91,6 @@ measure-edge-spec =
     add-size
     plan-number-len-requires-3
     add-size-2
-    plan-number-len-requires-4
     add-size-3
     add-t11
     add-t10
