@@ -35,16 +35,17 @@ fn plan_call(
     let mut route = [0u32; ROUTE];
     let mut log = [0u32; LOG];
     let mut work = [0u32; WORK];
+    let ends = front.ends;
     let answer = planner::plan(
         plan,
-        front.start,
-        front.goal,
-        front.barred,
+        ends.start,
+        ends.goal,
+        ends.barred,
         anchor,
         sheets,
         front.guide_count,
         schedule,
-        front.budget,
+        ends.budget,
         &mut route,
         &mut log,
         &mut work,

@@ -12,6 +12,7 @@ use Rattle.graph.specs.declared.PlanRead.{PlanRead}
 use Rattle.graph.specs.declared.PlanRead.the-variants as checked
 use Rattle.graph.specs.Plan.{decode, sizes}
 use Rattle.graph.proofs.Tests.{or-left, or-right}
+use Rattle.job.specs.declared.Ends.{Ends}
 use Rattle.job.specs.declared.Front.{Front}
 use Rattle.job.specs.declared.NumbersRead.{NumbersRead}
 use Rattle.job.specs.declared.NumbersRead.the-variants.{Past, Malformed}
@@ -38,12 +39,12 @@ pub record Rounds (s : List ℕ) (plan end : ℕ) (f : Front) : Type 0 where
 
 module _ (s : List ℕ) (plan end : ℕ) (f : Front) where
   whole-as :
-      (start goal barred budget r at g tables next : ℕ) → ltb maxJobRounds r ≡ false → endOf (2 * r) s at ≡ Past next → ltb maxJobGuides g ≡ false →
-      Whole (record { «plan_at» = plan; «plan_end» = end; start = start; goal = goal; barred = barred; budget = budget; «round_count» = r; «factors_at» = at; «guide_count» = g; «tables_at» = tables }) ≡ Whole f →
+      (x : Ends) (r at g tables next : ℕ) → ltb maxJobRounds r ≡ false → endOf (2 * r) s at ≡ Past next → ltb maxJobGuides g ≡ false →
+      Whole (record { «plan_at» = plan; «plan_end» = end; ends = x; «round_count» = r; «factors_at» = at; «guide_count» = g; «tables_at» = tables }) ≡ Whole f →
       Rounds s plan end f
   unfolding factorsOf
-  whole-as start goal barred budget r at g tables next few all less h =
-      let e : record { «plan_at» = plan; «plan_end» = end; start = start; goal = goal; barred = barred; budget = budget; «round_count» = r; «factors_at» = at; «guide_count» = g; «tables_at» = tables } ≡ f = cc in
+  whole-as x r at g tables next few all less h =
+      let e : record { «plan_at» = plan; «plan_end» = end; ends = x; «round_count» = r; «factors_at» = at; «guide_count» = g; «tables_at» = tables } ≡ f = cc in
       let er : r ≡ f .«round_count» = ap (λ (x : Front). x .«round_count») e in
       let eg : g ≡ f .«guide_count» = ap (λ (x : Front). x .«guide_count») e in
       let ea : at ≡ f .«factors_at» = ap (λ (x : Front). x .«factors_at») e in
@@ -55,15 +56,15 @@ module _ (s : List ℕ) (plan end : ℕ) (f : Front) where
         schedule = rw (sym er, sym ea) (length-values s next (2 * r) at all);
       }
 
-  rounds-whole : (start goal barred budget at : ℕ) → rounds s plan end start goal barred budget at ≡ Whole f → Rounds s plan end f
+  rounds-whole : (x : Ends) (at : ℕ) → rounds s plan end x at ≡ Whole f → Rounds s plan end f
   unfolding rounds
-  rounds-whole start goal barred budget at h =
+  rounds-whole x at h =
       whole-following f (read jobGroups s at) _ h
       (λ r factors _ h₁. whole-cond f (ltb maxJobRounds r) _ h₁
       (λ few h₂. whole-past f (endOf (2 * r) s factors) _ h₂
       (λ next all h₃. whole-following f (read jobGroups s next) _ h₃
       (λ g tables _ h₄. whole-cond f (ltb maxJobGuides g) _ h₄
-      (λ less h₅. whole-as start goal barred budget r factors g tables next few all less h₅)))))
+      (λ less h₅. whole-as x r factors g tables next few all less h₅)))))
 
   ends-whole : ends s plan end ≡ Whole f → Rounds s plan end f
   unfolding ends
@@ -72,7 +73,7 @@ module _ (s : List ℕ) (plan end : ℕ) (f : Front) where
       (λ start goalAt _ h₁. whole-following f (read jobGroups s goalAt) _ h₁
       (λ goal barredAt _ h₂. whole-following f (read jobGroups s barredAt) _ h₂
       (λ barred budgetAt _ h₃. whole-following f (read jobGroups s budgetAt) _ h₃
-      (λ budget at _ h₄. rounds-whole start goal barred budget at h₄))))
+      (λ budget at _ h₄. rounds-whole _ at h₄))))
 
 -- the plan is a part of the job's bytes
 pub record Fits (s : List ℕ) (f : Front) : Type 0 where

@@ -47,14 +47,14 @@ unfoldable pub callWith : List ℕ → Front → List ℕ → List ℕ → List 
 callWith plan f anchor sheets schedule =
     record {
       bytes = plan;
-      start = f .start;
-      goal = f .goal;
-      barred = f .barred;
+      start = f .ends .start;
+      goal = f .ends .goal;
+      barred = f .ends .barred;
       anchor = anchor;
       sheets = sheets;
       count = f .«guide_count»;
       schedule = schedule;
-      budget = f .budget;
+      budget = f .ends .budget;
       memory = zeros;
     }
 

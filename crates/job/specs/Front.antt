@@ -10,6 +10,7 @@ use Rattle.leb128.specs.declared.NumberRead.the-variants as number
 use Rattle.job.specs.declared.NumbersRead.{NumbersRead}
 use Rattle.job.specs.declared.NumbersRead.the-variants.{Past, Malformed}
 use Rattle.job.specs.Numbers.{endOf}
+use Rattle.job.specs.declared.Ends.{Ends}
 use Rattle.job.specs.declared.FrontRead.{FrontRead}
 use Rattle.job.specs.declared.FrontRead.the-variants.{Whole, Refused}
 
@@ -34,8 +35,8 @@ past (Past next) rest = rest next
 past Malformed rest = Refused
 
 -- rounds and factors, guide count
-unfoldable pub rounds : List ℕ → ℕ → ℕ → ℕ → ℕ → ℕ → ℕ → ℕ → FrontRead
-rounds s planAt planEnd start goal barred budget at =
+unfoldable pub rounds : List ℕ → ℕ → ℕ → Ends → ℕ → FrontRead
+rounds s planAt planEnd ends at =
     following (read jobGroups s at) (λ roundCount factorsAt.
     cond (ltb maxJobRounds roundCount) Refused
     (past (endOf (2 * roundCount) s factorsAt) (λ guidesAt.
@@ -45,10 +46,7 @@ rounds s planAt planEnd start goal barred budget at =
     (record {
       «plan_at» = planAt;
       «plan_end» = planEnd;
-      start = start;
-      goal = goal;
-      barred = barred;
-      budget = budget;
+      ends = ends;
       «round_count» = roundCount;
       «factors_at» = factorsAt;
       «guide_count» = guideCount;
@@ -62,7 +60,7 @@ ends s planAt planEnd =
     following (read jobGroups s goalAt) (λ goal barredAt.
     following (read jobGroups s barredAt) (λ barred budgetAt.
     following (read jobGroups s budgetAt) (λ budget at.
-    rounds s planAt planEnd start goal barred budget at))))
+    rounds s planAt planEnd (record { start = start; goal = goal; barred = barred; budget = budget }) at))))
 
 -- plan length, the plan
 unfoldable pub front : List ℕ → FrontRead

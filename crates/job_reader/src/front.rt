@@ -3,6 +3,7 @@
 ghost use mathlib.Core.Path.{_≡_};
 ghost use Rattle.job.specs.Front.{front, ends, rounds};
 use crate::numbers;
+use job::Ends;
 use job::Front;
 use job::FrontRead;
 use job::NumbersRead;
@@ -14,17 +15,8 @@ const MAX_JOB_ROUNDS: u32 = 16;
 const MAX_JOB_GUIDES: u32 = 8;
 
 // Rounds and factors, and the guide count.
-fn read_rounds(
-    job: &[u8],
-    plan_at: usize,
-    plan_end: usize,
-    start: u32,
-    goal: u32,
-    barred: u32,
-    budget: u32,
-    at: usize,
-) -> FrontRead
-    ensures { λ r. ⌜ r ≡ rounds (now (job .entry)) «plan_at» «plan_end» start goal barred budget at ⌝ }
+fn read_rounds(job: &[u8], plan_at: usize, plan_end: usize, ends: Ends, at: usize) -> FrontRead
+    ensures { λ r. ⌜ r ≡ rounds (now (job .entry)) «plan_at» «plan_end» ends at ⌝ }
 {
     let NumberRead::Value(round_count, factors_at) = leb128_reader::read_job_number(job, at) else {
         return FrontRead::Refused;
@@ -46,10 +38,7 @@ fn read_rounds(
     FrontRead::Whole(Front {
         plan_at,
         plan_end,
-        start,
-        goal,
-        barred,
-        budget,
+        ends,
         round_count,
         factors_at,
         guide_count,
@@ -73,7 +62,13 @@ fn read_ends(job: &[u8], plan_at: usize, plan_end: usize) -> FrontRead
     let NumberRead::Value(budget, at) = leb128_reader::read_job_number(job, budget_at) else {
         return FrontRead::Refused;
     };
-    read_rounds(job, plan_at, plan_end, start, goal, barred, budget, at)
+    let ends = Ends {
+        start,
+        goal,
+        barred,
+        budget,
+    };
+    read_rounds(job, plan_at, plan_end, ends, at)
 }
 
 // Where the plan begins and ends, and what follows.

@@ -8,7 +8,6 @@ use lib.ListN.{length, getD, take, drop, length-append, length-drop, length-map,
 use lib.Seq.{take-at, drop-at, drop-drop, drop-cons, getD-append-add}
 use Rattle.graph.specs.declared.Edge.{Edge}
 use Rattle.graph.specs.Plan.{accepted, decode}
-use Rattle.graph.specs.Limits.{maxClass}
 use Rattle.graph.specs.Lists.{headOf, costOf, classOf, over}
 use Rattle.graph.specs.OneForm.{EdgeWithin}
 use Rattle.graph.proofs.Plan.{whole}
