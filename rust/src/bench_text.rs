@@ -1,4 +1,4 @@
-//! The bench program's text, written from the paper alone: a job is read
+//! The bench program's text, written from the papers alone: a job is read
 //! from its bytes, planned, and its turns and ending are printed.
 
 use crate::planner::{self, Answer, Event, Fault, Memory, Request};

@@ -1,5 +1,5 @@
 //! A second implementation of the plan bytes and of the route planner,
-//! written from the paper alone, and what is needed to compare the library
+//! written from the papers alone, and what is needed to compare the library
 //! under test with it.
 
 pub mod bench_text;

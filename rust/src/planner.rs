@@ -1,4 +1,4 @@
-//! The second planner, written from the paper alone: every least key is
+//! The second planner, written from the papers alone: every least key is
 //! found by a scan over all vertices, and the search works in the lent
 //! memory alone.
 //!

@@ -1,4 +1,4 @@
-//! The plan bytes, written from the paper alone.
+//! The plan bytes, written from the papers alone.
 //!
 //! Numbers stand in groups of seven bits, lowest group first; a byte's top
 //! bit is set when another group follows, and the last group is not zero

@@ -1,10 +1,10 @@
 -- The table of document 01's (p) cases, the jobs that tell its rules from others, and the cases of barred classes.
 use mathlib.Core.Path.{refl}
-use Rattle.leb128.specs.Number.{planGroups, more, answered, read}
+use Rattle.leb128.specs.Number.{planGroups, more, answered, read, encode}
 use Rattle.leb128.specs.Number
 use Rattle.graph.specs.Rows.{vertexCountRows, edgeCountRows, tailRows, headRows, costRows, classRows, through, throughAll, takeNumber, taking}
-use Rattle.graph.specs.Plan.{leastAfter, past, nextEdge, before, onward, edgesFrom, header, afterHeader, decode}
-use Rattle.graph.specs.Lists.{over, edgesIn, edgesOf, listRows, edgeRows, edgesFault, writeFault}
+use Rattle.graph.specs.Plan.{leastAfter, past, nextEdge, before, onward, edgesFrom, header, afterHeader, decode, sizes}
+use Rattle.graph.specs.Lists.{over, roomFor, readAs, edgesIn, readAnswer, listAfter, edgesOf, listRows, edgeRows, edgesFault, writeFault, edgeBytes, edgesBytes, bytesOf, outAfter}
 use Rattle.search.specs.Walk.{edgeCost, onEdge, costFrom, routeCost}
 use Rattle.search.specs.Permitted.{barredBy, permitted}
 use Rattle.search.specs.Job.{cyclic, guides, heuristic, factors, house, unreached, noPred, routeEnd, fresh, origin, atFirst, at}
@@ -23,7 +23,7 @@ use Rattle.cases.proofs.TwoVertices.{two-vertices}
 use Rattle.cases.proofs.StartIsGoal.{start-is-goal}
 
 computed : Cases × Apart × Barred
-unfolding Number.decode more answered read planGroups vertexCountRows edgeCountRows tailRows headRows costRows classRows through throughAll takeNumber taking leastAfter past nextEdge before onward edgesFrom header afterHeader decode over edgesIn edgesOf listRows edgeRows edgesFault writeFault edgeCost onEdge costFrom routeCost barredBy permitted cyclic guides heuristic factors house unreached noPred routeEnd fresh origin atFirst at key offered better leastFrom least stepOne candidate choose marked lowered relax relaxAll expand firstTurn nextTurn turned ended inHand step choice turn trace traced improves costOr reopened endRound onFinished settle settled begin onDue advance run moments search inForce scheduleOf outOfRange rising pairs row first endsRow tablesRow scheduleRow memoryRow goalRow edgesRow faultIn faultOf planEdges tables jobIn jobFrom jobOf bound summary cutShort answerAt answerOf figures routeWords routeAfter logWord logAfter edgesBelow firstEdges markWord vertexWords workWords outcome answerIn answer memoryIn memoryAfter withPick
+unfolding Number.decode more answered read planGroups encode vertexCountRows edgeCountRows tailRows headRows costRows classRows through throughAll takeNumber taking leastAfter past nextEdge before onward edgesFrom header afterHeader decode sizes over roomFor readAs edgesIn readAnswer listAfter edgesOf listRows edgeRows edgesFault writeFault edgeBytes edgesBytes bytesOf outAfter edgeCost onEdge costFrom routeCost barredBy permitted cyclic guides heuristic factors house unreached noPred routeEnd fresh origin atFirst at key offered better leastFrom least stepOne candidate choose marked lowered relax relaxAll expand firstTurn nextTurn turned ended inHand step choice turn trace traced improves costOr reopened endRound onFinished settle settled begin onDue advance run moments search inForce scheduleOf outOfRange rising pairs row first endsRow tablesRow scheduleRow memoryRow goalRow edgesRow faultIn faultOf planEdges tables jobIn jobFrom jobOf bound summary cutShort answerAt answerOf figures routeWords routeAfter logWord logAfter edgesBelow firstEdges markWord vertexWords workWords outcome answerIn answer memoryIn memoryAfter withPick
 computed = (
   record {
     job-A = record { says = refl; leaves = refl };
@@ -56,6 +56,11 @@ computed = (
     class-8 = plan-refused _ _ _ refl;
     class-8-written = refl;
     cost-before-class = refl;
+    read-exact = refl;
+    read-short = (refl, refl, refl, refl);
+    classes-read = refl;
+    classes-unequal = refl;
+    bytes-written = refl;
   },
 )
 

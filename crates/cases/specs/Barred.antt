@@ -3,7 +3,10 @@ use Prim.Native.Nat.{ℕ}
 use mathlib.Core.Path.{_≡_}
 use mathlib.Core.List.{List, [], _∷_}
 use lib.ListN.{replicate}
-use Rattle.graph.specs.Lists.{Fault, fault, writeFault}
+use Rattle.graph.specs.declared.PlanRead.{PlanRead}
+use Rattle.graph.specs.declared.PlanRead.the-variants.{Sizes, Refused}
+use Rattle.graph.specs.declared.PlanWritten.the-variants.{Count}
+use Rattle.graph.specs.Lists.{classOf, readAnswer, listAfter, Fault, fault, writeFault, outAfter}
 use Rattle.search.specs.Call.{Call}
 use Rattle.job.specs.JobA.{planWith, planA}
 use Rattle.cases.specs.Cases.{HandsOver, routed, noRouteAfter, refusedAt, PlanRefused, old, unset, lent, callOn, anchorA, workWith}
@@ -19,6 +22,20 @@ unreached = unset ∷ unset ∷ unset ∷ 0 ∷ []
 -- the writer's fault where one lane, of one vertex, has this cost and class
 abbrev pub written : ℕ → ℕ → Fault
 written cost class = writeFault 1 (0 ∷ []) (0 ∷ []) (cost ∷ []) (class ∷ [])
+
+-- plan A, with class 1 on lane 0→1, read into lists of so many words
+abbrev pub readInto : ℕ → ℕ → ℕ → ℕ → PlanRead
+readInto t h c k = readAnswer (planWith 0x01) (replicate t old) (replicate h old) (replicate c old) (replicate k old)
+
+-- its lists, with these classes
+abbrev pub tailsA : List ℕ
+tailsA = 0 ∷ 0 ∷ 1 ∷ 2 ∷ []
+
+abbrev pub headsA : List ℕ
+headsA = 1 ∷ 2 ∷ 2 ∷ 3 ∷ []
+
+abbrev pub costsA : List ℕ
+costsA = 1 ∷ 4 ∷ 2 ∷ 3 ∷ []
 
 pub record Barred : Type 0 where
   -- class 1 barred: route 0 2 3, cost 7, both rounds; lane 0→1 is in work memory and is not tried
@@ -46,3 +63,11 @@ pub record Barred : Type 0 where
   pub class-8 : PlanRefused (planWith 0x08) 15 5
   pub class-8-written : written 1000000 8 ≡ fault 15 0
   pub cost-before-class : written 1000001 8 ≡ fault 5 0
+  -- read into lists: four of M words are enough, and 11 where one is shorter; the classes, and the rest of their list as it was
+  pub read-exact : readInto 4 4 4 4 ≡ Sizes 4 4
+  pub read-short :
+      (readInto 3 4 4 4 ≡ Refused 11 0) × (readInto 4 3 4 4 ≡ Refused 11 0) × (readInto 4 4 3 4 ≡ Refused 11 0) × (readInto 4 4 4 3 ≡ Refused 11 0)
+  pub classes-read : listAfter classOf (planWith 0x01) (replicate 5 old) (Sizes 4 4) ≡ 1 ∷ 0 ∷ 0 ∷ 0 ∷ old ∷ []
+  -- written from lists: unequal lists are 3, and plan A's lists make its bytes
+  pub classes-unequal : writeFault 4 tailsA headsA costsA (1 ∷ 0 ∷ 0 ∷ 0 ∷ 0 ∷ []) ≡ fault 3 0
+  pub bytes-written : outAfter 4 tailsA headsA costsA (1 ∷ 0 ∷ 0 ∷ 0 ∷ []) (replicate 18 old) (Count 18) ≡ planWith 0x01

@@ -55,8 +55,8 @@ module _ (c : Call) (z : Size) (q : Query) (s : State) (left : ℕ) (p : Progres
   vertices-is = holds-vertices z (planEdges c) (s .vertices) (wordsOf (c .memory)) (wordsOf m) (k .words)
 
   -- the traced route costs over the whole plan what it costs over the permitted edges
-  same-cost : routeCost (graphOf z (m .work)) (traced job s) ≡ routeCost (job .edges) (traced job s)
-  same-cost =
+  plan-same : routeCost (graphOf z (m .work)) (traced job s) ≡ routeCost (job .edges) (traced job s)
+  plan-same =
       ap (λ (es : List Edge). routeCost es (traced job s)) (holds-graph z (planEdges c) (s .vertices) (wordsOf (c .memory)) (wordsOf m) (k .words))
       ∙ plan-cost c (a .admitted) (done .walk .walk)
       ∙ sym (done .walk .is)
@@ -93,10 +93,10 @@ module _ (c : Call) (z : Size) (q : Query) (s : State) (left : ℕ) (p : Progres
   carries-end cost m′ p′ h r w e =
       let g : q .guides ≡ guides job = a .guides ∙ sym (job-guides c) in
       let h′ : cost ≡ endRound job s .progress .cost
-      = ends-cost z (wordsOf m) job s (a .vertices) same-cost vertices-is cost
+      = ends-cost z (wordsOf m) job s (a .vertices) plan-same vertices-is cost
       (rw (sym start-is, sym goal-is, sym (k .progress)) h) in
       let r′ : m′ .route ≡ routeAfter job (endRound job s) (c .memory .route)
-      = ends-route z (wordsOf m) job s (a .vertices) same-cost vertices-is (c .memory .route) (m .route) (m′ .route) (done .walk .cost) (done .walk .is)
+      = ends-route z (wordsOf m) job s (a .vertices) plan-same vertices-is (c .memory .route) (m .route) (m′ .route) (done .walk .cost) (done .walk .is)
       (λ i. k .ok .kept .route i .short) (k .kept) (rw (sym start-is, sym goal-is, sym (k .progress)) r) in
       record {
         ok = done .after;

@@ -9,7 +9,7 @@ use borrow.Author.Tests.{eqb-false, ne-eqb}
 use Rattle.graph.specs.declared.Edge.{Edge}
 use Rattle.search.specs.declared.RouteCost.the-variants.{Cost}
 use Rattle.search.specs.Walk.{Walk, here, along, routeCost}
-use Rattle.search.specs.Permitted.{barredBy, permitted, Bit, InOrder, end, kept, left, Permits}
+use Rattle.search.specs.Permitted.{barredBy, permitted, Bit, InOrder, end, kept, dropped, Permits}
 use Rattle.search.proofs.Facts.{OneCost}
 use Rattle.search.proofs.Route.{walk-cost}
 
@@ -83,7 +83,7 @@ module _ (b : ℕ) where
   permitted-order (e ∷ es) = by (barredBy b (e .class)) (permitted-order es)
     where
       by : (t : Bool) → InOrder (permitted b es) es → InOrder (cond t (permitted b es) (e ∷ permitted b es)) (e ∷ es)
-      by true o = left o
+      by true o = dropped o
       by false o = kept o
 
   pub permitted-in : (es : List Edge) (e : Edge) → List·Memᴰ e (permitted b es) → List·Memᴰ e es

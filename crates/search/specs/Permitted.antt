@@ -29,7 +29,7 @@ pub record Bit (b k x : ℕ) : Type 0 where
 pub data InOrder : List Edge → List Edge → Type 0 where
   end : InOrder [] []
   kept : {e : Edge} {ps es : List Edge} → InOrder ps es → InOrder (e ∷ ps) (e ∷ es)
-  left : {e : Edge} {ps es : List Edge} → InOrder ps es → InOrder ps (e ∷ es)
+  dropped : {e : Edge} {ps es : List Edge} → InOrder ps es → InOrder ps (e ∷ es)
 
 -- ps are those of es that are permitted: an edge is one of them exactly if it is one of es and its class is not barred
 pub record Permits (b : ℕ) (es ps : List Edge) : Type 0 where

@@ -180,7 +180,7 @@ module _ (z : Size) (b s c first e : ℕ) (m₀ : Words) (r : Ready z m₀) wher
 
 -- ---- expanding: m before, u with the vertex marked, y after its edges
 
-module _ (z : Size) (m u : Words) (b i s : ℕ) (r : Ready z m)
+module _ (z : Size) (m u : Words) (i s : ℕ) (r : Ready z m)
     (f : Becomes z (set (verticesOf z m) s (marked i (at (verticesOf z m) s))) m u) where
   abbrev after : List Vertex
   after = set (verticesOf z m) s (marked i (at (verticesOf z m) s))
@@ -192,10 +192,10 @@ module _ (z : Size) (m u : Words) (b i s : ℕ) (r : Ready z m)
   marked-ready = rw (f .words) (ready-loaded z m (r .room) (r .graph) after after-length)
 
   pub expanded :
-      (y : Words) → Becomes z (tried b s (at (verticesOf z m) s .g) (graphOf z (u .work)) (verticesOf z u)) u y →
+      (b : ℕ) (y : Words) → Becomes z (tried b s (at (verticesOf z m) s .g) (graphOf z (u .work)) (verticesOf z u)) u y →
       Becomes z (expand (permitted b (graphOf z (m .work))) i s (verticesOf z m)) m y
   unfolding expand
-  expanded y g =
+  expanded b y g =
       let c : ℕ = at (verticesOf z m) s .g in
       let es : List Edge = permitted b (graphOf z (m .work)) in
       let p : verticesOf z u ≡ after = ap (verticesOf z) (f .words) ∙ verticesOf-written z m (r .room) after after-length in

@@ -6,9 +6,6 @@ use Rattle.loader.proofs.Loading.{next-tail, loaded-none, loaded-one}
 use borrow.Author.Needs.{needs}
 use Rattle.loader.proofs.load_edge.Statement.{statement}
 use Rattle.loader.proofs.load_edge.Tie as tie
-use Rattle.loader.proofs.fill_first.Reads as fill-first-reads
-use Rattle.plan_check.proofs.cursor.next_edge.Reads as next-edge-reads
-use Rattle.workspace.proofs.edge_words.put_edge.Reads as put-edge-reads
 
 next-edge-requires : tie.Need-next-edge-requires
 next-edge-requires c κs = search needs

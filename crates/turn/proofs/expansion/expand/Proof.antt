@@ -20,7 +20,7 @@ relax-all-requires : tie.Need-relax-all-requires
 relax-all-requires c κs =
     let s = c .before .before .before .before .before .before .before .before .before in
     let f = rw (c .before .before .before .before .marked .ensures, c .before .before .before .before .before .before .load .ensures .0) at (c .before .before .before .store .ensures) in
-    (marked-ready (s .args .z) (mem (s .args .work .now)) _ (s .args .barred) (s .args .i) (s .args .s) (s .pre .0) f, s .pre .1)
+    (marked-ready (s .args .z) (mem (s .args .work .now)) _ (s .args .i) (s .args .s) (s .pre .0) f, s .pre .1)
 
 same-length : tie.Need-same-length
 same-length c = search needs
@@ -30,7 +30,7 @@ returns c =
     let l = c .before .before .before .before .before .before .before .before .before in
     let s = l .before .before .before in
     let f = rw (c .before .before .before .before .before .before .before .marked .ensures, l .load .ensures .0) at (c .before .before .before .before .before .before .store .ensures) in
-    expanded (s .args .z) (mem (s .args .work .now)) _ (s .args .barred) (s .args .i) (s .args .s) (s .pre .0) f _
+    expanded (s .args .z) (mem (s .args .work .now)) _ (s .args .i) (s .args .s) (s .pre .0) f (s .args .barred) _
     (rw (l .load .ensures .0) at (c .before .before .relax-all .ensures))
 
 pub expand-spec : {M : Type 1} → statement M
