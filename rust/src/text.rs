@@ -4,9 +4,9 @@
 //! A line is `places V`, `lane TAIL HEAD COST CLASS`, `start PLACE`,
 //! `goal PLACE`, `barred NUMBER`, `allowance TURNS`, `round W1 W2`,
 //! `anchor NUMBER ...` or `guide NUMBER ...`; `#` begins a comment. Lanes,
-//! rounds and guides stand in their order, otherwise lines stand anywhere. A
-//! class that is left out is 0, and so is a barred number: texts from before
-//! there were classes say what they said.
+//! rounds and guides stand in their order, otherwise lines stand anywhere.
+//! Where no lane has a class all classes are 0, and a barred number that is
+//! left out is 0: texts from before there were classes say what they said.
 //!
 //! Bytes that these lines cannot say stand as hexadecimal pairs: `plan` in
 //! place of places and lanes, `tables` with `guides COUNT` in place of the
@@ -172,7 +172,7 @@ impl<'a> Words<'a> {
         ))
     }
 
-    /// Tail, head, cost and class of a lane; a class that is left out is 0.
+    /// Tail, head, cost and class of a lane; without one it is 0.
     fn lane(&self) -> Result<Line<[u32; 4]>, String> {
         match self.numbers()?[..] {
             [tail, head, cost] => Ok(self.says([tail, head, cost, 0])),
@@ -293,6 +293,8 @@ fn missing(what: &str) -> String {
 struct PlanParts {
     places: Option<Line<u32>>,
     lanes: Vec<Line<[u32; 4]>>,
+    /// Whether the first lane has a class.
+    classed: Option<Line<bool>>,
 }
 
 impl PlanParts {
@@ -300,10 +302,31 @@ impl PlanParts {
     fn take(&mut self, words: &Words) -> Result<bool, String> {
         match words.word {
             "places" => words.once(&mut self.places, words.one()?)?,
-            "lane" => self.lanes.push(words.lane()?),
+            "lane" => self.take_lane(words)?,
             _ => return Ok(false),
         }
         Ok(true)
+    }
+
+    /// Takes a lane; classes stand on all lanes or on none, so that none is
+    /// forgotten.
+    fn take_lane(&mut self, words: &Words) -> Result<(), String> {
+        let lane = words.lane()?;
+        let classed = words.rest.len() == 4;
+        let first = self.classed.get_or_insert(words.says(classed));
+        if first.says != classed {
+            let (here, there) = match classed {
+                true => ("a class", "none"),
+                false => ("no class", "one"),
+            };
+            let line = first.number;
+            return words.wrong(format!(
+                "this lane has {here}, and that of line {line} has {there}; classes stand on all \
+                 lanes or on none"
+            ));
+        }
+        self.lanes.push(lane);
+        Ok(())
     }
 
     fn finish(self) -> Result<PlanLines, String> {

@@ -43,7 +43,7 @@ fn job_a() {
     );
 }
 
-/// A class and a barred number that are left out are 0; where they stand they
+/// Classes and a barred number that are left out are 0; where they stand they
 /// are said.
 #[test]
 fn classes_and_barred_numbers() {
@@ -190,18 +190,18 @@ fn a_line_that_bytes_cannot_say_is_told() {
         ),
         (
             3,
-            "lane 0 1 3000000",
+            "lane 0 1 3000000 0",
             "line 3: cost 3000000 is above 1000000",
         ),
         (3, "lane 0 1 1 3000000", "line 3: class 3000000 is above 7"),
         (
             6,
-            "lane 3000000 3 3",
+            "lane 3000000 3 3 0",
             "line 6: tail 3000000 is not a place; places are 0 to 3",
         ),
         (
             6,
-            "lane 2 3000000 3",
+            "lane 2 3000000 3 0",
             "line 6: head 3000000 is not a place; places are 0 to 3",
         ),
         (
@@ -213,6 +213,18 @@ fn a_line_that_bytes_cannot_say_is_told() {
             3,
             "lane 0 1 1 0 0",
             "line 3: 'lane' takes 3 or 4 numbers, and 5 stand there",
+        ),
+        (
+            4,
+            "lane 0 2 4",
+            "line 4: this lane has no class, and that of line 3 has one; classes stand on all \
+             lanes or on none",
+        ),
+        (
+            3,
+            "lane 0 1 1",
+            "line 4: this lane has a class, and that of line 3 has none; classes stand on all \
+             lanes or on none",
         ),
         (
             9,
@@ -258,7 +270,7 @@ fn a_line_that_bytes_cannot_say_is_told() {
         ),
         (
             3,
-            "lane 1 1 1",
+            "lane 1 1 1 0",
             "line 4: tail 0 stands after tail 1; lanes stand by rising tails, and under one \
              tail by rising heads",
         ),
@@ -347,7 +359,7 @@ fn a_line_that_the_bench_program_refuses_is_told() {
     for (line, other, words) in [
         (
             3,
-            "lane 0 1 1000001",
+            "lane 0 1 1000001 0",
             "line 3: cost 1000001 is above 1000000 (refusal 5)",
         ),
         (4, "lane 0 2 4 8", "line 4: class 8 is above 7 (refusal 15)"),
@@ -370,13 +382,13 @@ fn a_line_that_the_bench_program_refuses_is_told() {
         ),
         (
             5,
-            "lane 1 1 2\nlane 1 1 2",
+            "lane 1 1 2 0\nlane 1 1 2 0",
             "line 6: head 1 is not above head 1 of the lane before; heads rise under one tail \
              (refusal 6)",
         ),
         (
             6,
-            "lane 2 4 3",
+            "lane 2 4 3 0",
             "line 6: head 4 is not a place; places are 0 to 3 (refusal 4)",
         ),
         (
