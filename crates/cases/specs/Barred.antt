@@ -27,7 +27,7 @@ written cost class = writeFault 1 (0 ∷ []) (0 ∷ []) (cost ∷ []) (class ∷
 abbrev pub readInto : ℕ → ℕ → ℕ → ℕ → PlanRead
 readInto t h c k = readAnswer (planWith 0x01) (replicate t old) (replicate h old) (replicate c old) (replicate k old)
 
--- its lists, with these classes
+-- its tails, heads and costs
 abbrev pub tailsA : List ℕ
 tailsA = 0 ∷ 0 ∷ 1 ∷ 2 ∷ []
 
