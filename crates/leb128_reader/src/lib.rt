@@ -40,7 +40,8 @@ fn read_full(bytes: &[u8], at: usize) -> NumberRead
     if 127 < d {
         return NumberRead::Refused(at);
     }
-    ended(d, a - 128 + 128 * (b - 128 + 128 * (c - 128 + 128 * d)), at, at + 4)
+    let value = a - 128 + 128 * (b - 128 + 128 * (c - 128 + 128 * d));
+    ended(d, value, at, at + 4)
 }
 
 // The plan number at an offset from which fewer than four bytes remain: there is none where the last of

@@ -1,6 +1,8 @@
 // One plan number written, and how many bytes it takes.
+ghost use Prim.Native.Nat.{_+_, _^_, _≤_, _<_};
 ghost use mathlib.Core.Path.{_≡_};
 ghost use lib.ListN.{length};
+ghost use lib.Seq.{sets};
 ghost use Rattle.leb128.specs.Number.{planGroups, encode, writeAnswer, written};
 use leb128::NumberWritten;
 
@@ -12,9 +14,34 @@ pub fn plan_number_len(value: u32) -> usize
         1
     } else if value < 16384 {
         2
-    } else {
+    } else if value < 2097152 {
         3
+    } else {
+        4
     }
+}
+
+// Writes the groups of a plan number from an offset on, where they fit.
+fn lay_groups(out: &mut [u8], at: usize, value: u32)
+    requires { ⌜ (value < 128 ^ planGroups) × (at + length (encode planGroups value) ≤ length (now out)) ⌝ }
+    ensures { λ _. ⌜ now (out .exit) ≡ sets (now (out .entry)) at (encode planGroups value) ⌝ }
+{
+    if value < 128 {
+        out[at] = value as u8;
+        return;
+    }
+    out[at] = (value % 128 + 128) as u8;
+    if value < 16384 {
+        out[at + 1] = (value / 128) as u8;
+        return;
+    }
+    out[at + 1] = (value / 128 % 128 + 128) as u8;
+    if value < 2097152 {
+        out[at + 2] = (value / 16384) as u8;
+        return;
+    }
+    out[at + 2] = (value / 16384 % 128 + 128) as u8;
+    out[at + 3] = (value / 2097152) as u8;
 }
 
 // Writes a plan number at an offset, where it fits.
@@ -22,30 +49,16 @@ pub fn write_plan_number(out: &mut [u8], at: usize, value: u32) -> NumberWritten
     ensures { λ r. ⌜ r ≡ writeAnswer planGroups (now (out .entry)) at value ⌝ }
     ensures { λ r. ⌜ now (out .exit) ≡ written planGroups (now (out .entry)) at value ⌝ }
 {
-    if 2097152 <= value {
+    if 268435456 <= value {
         return NumberWritten::TooLarge;
     }
     if out.len() <= at {
         return NumberWritten::NoRoom;
     }
-    let room = out.len() - at;
-    if value < 128 {
-        out[at] = value as u8;
-        return NumberWritten::Next(at + 1);
-    }
-    if room < 2 {
+    let size = plan_number_len(value);
+    if out.len() - at < size {
         return NumberWritten::NoRoom;
     }
-    if value < 16384 {
-        out[at] = (value % 128 + 128) as u8;
-        out[at + 1] = (value / 128) as u8;
-        return NumberWritten::Next(at + 2);
-    }
-    if room < 3 {
-        return NumberWritten::NoRoom;
-    }
-    out[at] = (value % 128 + 128) as u8;
-    out[at + 1] = (value / 128 % 128 + 128) as u8;
-    out[at + 2] = (value / 16384) as u8;
-    NumberWritten::Next(at + 3)
+    lay_groups(out, at, value);
+    NumberWritten::Next(at + size)
 }

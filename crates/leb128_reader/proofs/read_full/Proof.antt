@@ -14,11 +14,12 @@ shared-slice-read-a c = search needs
 cast-a : tie.Need-cast-a
 cast-a c = omega (arith, c .before .shared-slice-known .given (c .before .before .args .at))
 
-add-t10 : tie.Need-add-t10
-add-t10 c = search needs
+add-t11 : tie.Need-add-t11
+add-t11 c = search needs
 
 returns : tie.Need-returns
-returns c =    let k = c .before .before in
+returns c =
+    let k = c .before .before in
     let x = k .before .args in
     one (x .bytes .now) (x .at) _ (omega arith) refl (c .if1 .taken)
 
@@ -35,7 +36,8 @@ mul-ended : tie.Need-mul-ended
 mul-ended c = search needs
 
 add-ended : tie.Need-add-ended
-add-ended c =    let k = c .before .before .before .before in
+add-ended c =
+    let k = c .before .before .before .before in
     let x = k .before .args in
     omega (arith, k .shared-slice-known .given (x .at), k .shared-slice-known .given (x .at + 1))
 
@@ -46,11 +48,13 @@ ended-requires : tie.Need-ended-requires
 ended-requires c κs = search needs
 
 returns-2 : tie.Need-returns-2
-returns-2 c =    let k = c .before .before .before .before .before in
+returns-2 c =
+    let k = c .before .before .before .before .before in
     let x = k .before .args in
     let s = x .bytes .now in
-    two s (x .at) (getD s (x .at) 0 - 128) (omega arith)
-    (omega arith) (omega (arith, k .shared-slice-known .given (x .at))) (getD s (x .at + 1) 0) (omega arith) refl (c .before .if2 .taken) _ (c .ended .ensures)
+    two s (x .at)
+    (getD s (x .at) 0 - 128) (omega arith) (omega arith) (omega (arith, k .shared-slice-known .given (x .at)))
+    (getD s (x .at + 1) 0) (omega arith) refl (c .before .if2 .taken) _ (c .ended .ensures)
 
 add-c : tie.Need-add-c
 add-c c = search needs
@@ -65,17 +69,20 @@ mul-ended-2 : tie.Need-mul-ended-2
 mul-ended-2 c = search needs
 
 add-ended-3 : tie.Need-add-ended-3
-add-ended-3 c =    let k = c .before .before .before .before .before .before in
+add-ended-3 c =
+    let k = c .before .before .before .before .before .before in
     let x = k .before .args in
     omega (arith, k .shared-slice-known .given (x .at), k .shared-slice-known .given (x .at + 1), k .shared-slice-known .given (x .at + 2))
 
 mul-ended-3 : tie.Need-mul-ended-3
-mul-ended-3 c =    let k = c .before .before .before .before .before .before in
+mul-ended-3 c =
+    let k = c .before .before .before .before .before .before in
     let x = k .before .args in
     omega (arith, k .shared-slice-known .given (x .at), k .shared-slice-known .given (x .at + 1), k .shared-slice-known .given (x .at + 2))
 
 add-ended-4 : tie.Need-add-ended-4
-add-ended-4 c =    let k = c .before .before .before .before .before .before in
+add-ended-4 c =
+    let k = c .before .before .before .before .before .before in
     let x = k .before .args in
     omega (arith, k .shared-slice-known .given (x .at), k .shared-slice-known .given (x .at + 1), k .shared-slice-known .given (x .at + 2))
 
@@ -86,12 +93,14 @@ ended-requires-2 : tie.Need-ended-requires-2
 ended-requires-2 c κs = search needs
 
 returns-3 : tie.Need-returns-3
-returns-3 c =    let k = c .before .before .before .before .before .before .before in
+returns-3 c =
+    let k = c .before .before .before .before .before .before .before in
     let x = k .before .args in
     let s = x .bytes .now in
-    three s (x .at) (getD s (x .at) 0 - 128) (omega arith)
-    (omega arith) (omega (arith, k .shared-slice-known .given (x .at))) (getD s (x .at + 1) 0 - 128) (omega arith)
-    (omega arith) (omega (arith, k .shared-slice-known .given (x .at + 1))) (getD s (x .at + 2) 0) (omega arith) refl (c .before .if3 .taken) _ (c .ended2 .ensures)
+    three s (x .at)
+    (getD s (x .at) 0 - 128) (omega arith) (omega arith) (omega (arith, k .shared-slice-known .given (x .at)))
+    (getD s (x .at + 1) 0 - 128) (omega arith) (omega arith) (omega (arith, k .shared-slice-known .given (x .at + 1)))
+    (getD s (x .at + 2) 0) (omega arith) refl (c .before .if3 .taken) _ (c .ended2 .ensures)
 
 add-d : tie.Need-add-d
 add-d c = search needs
@@ -103,56 +112,65 @@ cast-d : tie.Need-cast-d
 cast-d c = omega (arith, c .before .before .before .before .before .before .before .shared-slice-known .given (c .before .before .before .before .before .before .before .before .args .at + 3))
 
 returns-4 : tie.Need-returns-4
-returns-4 c =    let k = c .before .before .before .before .before .before .before .before in
+returns-4 c =
+    let k = c .before .before .before .before .before .before .before .before in
     let x = k .before .args in
     let s = x .bytes .now in
-    over s (x .at) (getD s (x .at) 0 - 128) (omega arith)
-    (omega arith) (omega (arith, k .shared-slice-known .given (x .at))) (getD s (x .at + 1) 0 - 128) (omega arith)
-    (omega arith) (omega (arith, k .shared-slice-known .given (x .at + 1))) (getD s (x .at + 2) 0 - 128) (omega arith)
-    (omega arith) (omega (arith, k .shared-slice-known .given (x .at + 2))) (getD s (x .at + 3) 0) (omega arith) refl (c .if4 .taken)
+    over s (x .at)
+    (getD s (x .at) 0 - 128) (omega arith) (omega arith) (omega (arith, k .shared-slice-known .given (x .at)))
+    (getD s (x .at + 1) 0 - 128) (omega arith) (omega arith) (omega (arith, k .shared-slice-known .given (x .at + 1)))
+    (getD s (x .at + 2) 0 - 128) (omega arith) (omega arith) (omega (arith, k .shared-slice-known .given (x .at + 2)))
+    (getD s (x .at + 3) 0) (omega arith) refl (c .if4 .taken)
 
-mul-ended-4 : tie.Need-mul-ended-4
-mul-ended-4 c = search needs
+mul-value : tie.Need-mul-value
+mul-value c = search needs
+
+add-value : tie.Need-add-value
+add-value c =
+    let k = c .before .before .before .before .before .before .before .before in
+    let x = k .before .args in
+    omega (arith, k .shared-slice-known .given (x .at), k .shared-slice-known .given (x .at + 1), k .shared-slice-known .given (x .at + 2), k .shared-slice-known .given (x .at + 3))
+
+mul-value-2 : tie.Need-mul-value-2
+mul-value-2 c =
+    let k = c .before .before .before .before .before .before .before .before in
+    let x = k .before .args in
+    omega (arith, k .shared-slice-known .given (x .at), k .shared-slice-known .given (x .at + 1), k .shared-slice-known .given (x .at + 2), k .shared-slice-known .given (x .at + 3))
+
+add-value-2 : tie.Need-add-value-2
+add-value-2 c =
+    let k = c .before .before .before .before .before .before .before .before in
+    let x = k .before .args in
+    omega (arith, k .shared-slice-known .given (x .at), k .shared-slice-known .given (x .at + 1), k .shared-slice-known .given (x .at + 2), k .shared-slice-known .given (x .at + 3))
+
+mul-value-3 : tie.Need-mul-value-3
+mul-value-3 c =
+    let k = c .before .before .before .before .before .before .before .before in
+    let x = k .before .args in
+    omega (arith, k .shared-slice-known .given (x .at), k .shared-slice-known .given (x .at + 1), k .shared-slice-known .given (x .at + 2), k .shared-slice-known .given (x .at + 3))
+
+add-value-3 : tie.Need-add-value-3
+add-value-3 c =
+    let k = c .before .before .before .before .before .before .before .before in
+    let x = k .before .args in
+    omega (arith, k .shared-slice-known .given (x .at), k .shared-slice-known .given (x .at + 1), k .shared-slice-known .given (x .at + 2), k .shared-slice-known .given (x .at + 3))
 
 add-ended-6 : tie.Need-add-ended-6
-add-ended-6 c =    let k = c .before .before .before .before .before .before .before .before in
-    let x = k .before .args in
-    omega (arith, k .shared-slice-known .given (x .at), k .shared-slice-known .given (x .at + 1), k .shared-slice-known .given (x .at + 2), k .shared-slice-known .given (x .at + 3))
-
-mul-ended-5 : tie.Need-mul-ended-5
-mul-ended-5 c =    let k = c .before .before .before .before .before .before .before .before in
-    let x = k .before .args in
-    omega (arith, k .shared-slice-known .given (x .at), k .shared-slice-known .given (x .at + 1), k .shared-slice-known .given (x .at + 2), k .shared-slice-known .given (x .at + 3))
-
-add-ended-7 : tie.Need-add-ended-7
-add-ended-7 c =    let k = c .before .before .before .before .before .before .before .before in
-    let x = k .before .args in
-    omega (arith, k .shared-slice-known .given (x .at), k .shared-slice-known .given (x .at + 1), k .shared-slice-known .given (x .at + 2), k .shared-slice-known .given (x .at + 3))
-
-mul-ended-6 : tie.Need-mul-ended-6
-mul-ended-6 c =    let k = c .before .before .before .before .before .before .before .before in
-    let x = k .before .args in
-    omega (arith, k .shared-slice-known .given (x .at), k .shared-slice-known .given (x .at + 1), k .shared-slice-known .given (x .at + 2), k .shared-slice-known .given (x .at + 3))
-
-add-ended-8 : tie.Need-add-ended-8
-add-ended-8 c =    let k = c .before .before .before .before .before .before .before .before in
-    let x = k .before .args in
-    omega (arith, k .shared-slice-known .given (x .at), k .shared-slice-known .given (x .at + 1), k .shared-slice-known .given (x .at + 2), k .shared-slice-known .given (x .at + 3))
-
-add-ended-9 : tie.Need-add-ended-9
-add-ended-9 c = search needs
+add-ended-6 c = search needs
 
 ended-requires-3 : tie.Need-ended-requires-3
 ended-requires-3 c κs = search needs
 
 returns-5 : tie.Need-returns-5
-returns-5 c =    let k = c .before .before .before .before .before .before .before .before .before in
+returns-5 c =
+    let k = c .before .before .before .before .before .before .before .before .before in
     let x = k .before .args in
     let s = x .bytes .now in
-    four s (x .at) (getD s (x .at) 0 - 128) (omega arith)
-    (omega arith) (omega (arith, k .shared-slice-known .given (x .at))) (getD s (x .at + 1) 0 - 128) (omega arith)
-    (omega arith) (omega (arith, k .shared-slice-known .given (x .at + 1))) (getD s (x .at + 2) 0 - 128) (omega arith)
-    (omega arith) (omega (arith, k .shared-slice-known .given (x .at + 2))) (getD s (x .at + 3) 0) (omega arith) refl (c .before .if4 .left) _ (c .ended3 .ensures)
+    four s (x .at)
+    (getD s (x .at) 0 - 128) (omega arith) (omega arith) (omega (arith, k .shared-slice-known .given (x .at)))
+    (getD s (x .at + 1) 0 - 128) (omega arith) (omega arith) (omega (arith, k .shared-slice-known .given (x .at + 1)))
+    (getD s (x .at + 2) 0 - 128) (omega arith) (omega arith) (omega (arith, k .shared-slice-known .given (x .at + 2)))
+    (getD s (x .at + 3) 0) (omega arith) refl (c .before .if4 .left) _ (c .ended3 .ensures)
 
 pub read-full-spec : {M : Type 1} → statement M
 read-full-spec =
@@ -160,7 +178,7 @@ read-full-spec =
     (tie.spec
     shared-slice-read-a
     cast-a
-    add-t10
+    add-t11
     returns
     add-b
     shared-slice-read-b
@@ -184,12 +202,12 @@ read-full-spec =
     shared-slice-read-d
     cast-d
     returns-4
-    mul-ended-4
+    mul-value
+    add-value
+    mul-value-2
+    add-value-2
+    mul-value-3
+    add-value-3
     add-ended-6
-    mul-ended-5
-    add-ended-7
-    mul-ended-6
-    add-ended-8
-    add-ended-9
     ended-requires-3
     returns-5)
