@@ -16,7 +16,8 @@ use Rattle.leb128.proofs.Write.{room}
 use Rattle.graph.specs.declared.Edge.{Edge}
 use Rattle.graph.specs.Lists.{edgesOf, edgeBytes, edgesBytes}
 use Rattle.plan_writer.specs.Writing.{Equal, edgeAt, LayableEdge, Layable, EdgeFits, EdgesFit}
-use Rattle.plan_writer.proofs.Measuring.{edge-length, class-byte, rest, rest-is, rest-end}
+use Rattle.graph.proofs.Most.{edge-length, class-byte}
+use Rattle.plan_writer.proofs.Measuring.{rest, rest-is, rest-end}
 
 -- ---- bytes laid one after another
 

@@ -11,7 +11,7 @@ use lib.Seq.{drop-cons}
 use lib.Dec.{ltb, eqb}
 use borrow.Author.Tests.{ltb-false, lt-ltb, le-ltb, le-leb, lt-leb, eq-eqb, ne-eqb}
 use Rattle.leb128.specs.Number.{encode, planGroups}
-use Rattle.leb128.proofs.Laws.{split, encode-last, encode-few}
+use Rattle.leb128.proofs.Laws.{split}
 use Rattle.graph.specs.declared.Edge.{Edge}
 use Rattle.graph.specs.declared.Cursor.{Cursor}
 use Rattle.graph.specs.declared.EdgeRead.{EdgeRead}
@@ -20,7 +20,7 @@ use Rattle.graph.specs.declared.EdgeRead.the-variants as edgeRead
 use Rattle.graph.specs.declared.PlanWritten.{PlanWritten}
 use Rattle.graph.specs.declared.PlanWritten.the-variants.{Count}
 use Rattle.graph.specs.declared.PlanWritten.the-variants as planWritten
-use Rattle.graph.specs.Limits.{maxCost, maxClass}
+use Rattle.graph.specs.Limits.{maxVertices, maxCost, maxClass}
 use Rattle.graph.specs.Rows.{Row, through}
 use Rattle.graph.specs.Plan.{past, firstAt}
 use Rattle.graph.specs.Lists.{fault, edgesOf, edgeRows, edgesFault, edgeBytes, edgesBytes}
@@ -28,6 +28,7 @@ use Rattle.plan_writer.specs.Writing.{Equal, edgeAt, falls, edgeMeasured
 use Rattle.graph.proofs.Tests.{or-left}
 use Rattle.graph.proofs.Rows.{through-clear}
 use Rattle.graph.proofs.OneEdge.{next≢fault, passes-within}
+use Rattle.graph.proofs.Most.{edge-length, class-byte, edge-most}
 
 -- ---- row 6
 
@@ -70,25 +71,6 @@ module _ (c : Cursor) (e : Edge) where
   not-falling f = ltb-false (e .tail) (c .tail) (or-left (ltb (e .tail) (c .tail)) _ f)
 
 -- ---- one edge measured
-
--- the bytes of an edge, counted
-pub edge-length :
-    (t : ℕ) (e : Edge) →
-    length (edgeBytes t e)
-    ≡ length (encode planGroups (e .tail - t)) + length (encode planGroups (e .head)) + length (encode planGroups (e .cost))
-    + length (encode planGroups (e .class))
-unfolding edgeBytes
-edge-length t e = simp length-append (omega arith)
-
--- a class has one byte
-pub class-byte : (k : ℕ) → k ≤ maxClass → encode planGroups k ≡ k ∷ []
-unfolding planGroups
-class-byte k h = encode-last 2 k (omega arith)
-
-pub edge-few : (t : ℕ) (e : Edge) → e .class ≤ maxClass → length (edgeBytes t e) ≤ 10
-unfolding planGroups
-edge-few t e k =
-    omega (arith, edge-length t e, ap length (class-byte (e .class) k), encode-few 3 (e .tail - t), encode-few 3 (e .head), encode-few 3 (e .cost))
 
 module _ (v : ℕ) (c : Cursor) (i : ℕ) (e : Edge) where
   pub tail-refused : v ≤ e .tail → edgeRead.Refused 4 i ≡ edgeMeasured v c i e
@@ -188,12 +170,19 @@ module _ (v : ℕ) (c : Cursor) (i : ℕ) (e : Edge) (es : List Edge) where
   unfolding measuredOn
   measured-refused n p h = measured-step ∙ ap (measuredOn (λ (d : Cursor). edgesMeasured v d (i + 1) es)) h
 
-pub measured-few : (v : ℕ) (c : Cursor) (i : ℕ) (e d : Edge) (c′ : Cursor) → edgeMeasured v c i e ≡ Next d c′ → c′ .at ≤ c .at + 10
+-- an edge that passes has nine bytes at most
+pub measured-most :
+    (v : ℕ) (c : Cursor) (i : ℕ) (e d : Edge) (c′ : Cursor) → v ≤ maxVertices → edgeMeasured v c i e ≡ Next d c′ → c′ .at ≤ c .at + 9
 unfolding edgeMeasured past
-measured-few v c i e d c′ h =
+measured-most v c i e d c′ few h =
     let q = through-clear (λ (x : EdgeRead). x ≡ Next d c′) (λ n. edgeRead.Refused n i) (λ n. next≢fault) (edgeRows v (c .tail) (c .least) e) _ h in
     let k : past e (c .at + length (edgeBytes (c .tail) e)) ≡ c′ = cc (q .1) in
-    omega (arith, ap (λ (x : Cursor). x .at) k, edge-few (c .tail) e (passes-within v (c .tail) (c .least) e (q .0) .class))
+    let w = passes-within v (c .tail) (c .least) e (q .0) in
+    omega (
+      arith,
+      ap (λ (x : Cursor). x .at) k,
+      edge-most (c .tail) e (omega (arith, w .tail)) (omega (arith, w .head)) (w .class),
+    )
 
 pub measured-end : (v : ℕ) (c : Cursor) (i : ℕ) → Count (c .at) ≡ edgesMeasured v c i []
 unfolding edgesMeasured measured edgesFault edgesBytes
@@ -201,7 +190,7 @@ measured-end v c i = ap Count (omega arith)
 
 -- the loop over the edges: the cursor before edge i counts the bytes so far, and the rest from there is the whole from the start
 pub record Measuring (v : ℕ) (ts hs cs ks : List ℕ) (start : ℕ) (c : Cursor) (i : ℕ) : Type 0 where
-  pub few : c .at ≤ start + 10 * i
+  pub few : c .at ≤ start + 9 * i
   pub same : edgesMeasured v c i (rest ts hs cs ks i) ≡ edgesMeasured v (firstAt start) 0 (edgesOf ts hs cs ks)
 
 pub measuring-first : (v : ℕ) (ts hs cs ks : List ℕ) (start : ℕ) (c : Cursor) → c ≡ firstAt start → Measuring v ts hs cs ks start c 0
@@ -223,9 +212,10 @@ module _ {v : ℕ} {ts hs cs ks : List ℕ} {start : ℕ} {c : Cursor} {i : ℕ}
         {n p : ℕ} → edgeMeasured v c i e ≡ edgeRead.Refused n p → planWritten.Refused n p ≡ edgesMeasured v (firstAt start) 0 (edgesOf ts hs cs ks)
     measuring-refused {n} {p} k = sym (measured-refused v c i e (rest ts hs cs ks (i + 1)) n p k) ∙ whole
 
-    pub measuring-next : {d : Edge} {c′ : Cursor} → edgeMeasured v c i e ≡ Next d c′ → Measuring v ts hs cs ks start c′ (i + 1)
-    measuring-next {d} {c′} k =
+    pub measuring-next :
+        v ≤ maxVertices → {d : Edge} {c′ : Cursor} → edgeMeasured v c i e ≡ Next d c′ → Measuring v ts hs cs ks start c′ (i + 1)
+    measuring-next few {d} {c′} k =
         record {
-          few = omega (arith, m .few, measured-few v c i e d c′ k);
+          few = omega (arith, m .few, measured-most v c i e d c′ few k);
           same = sym (measured-next v c i e (rest ts hs cs ks (i + 1)) d c′ k) ∙ whole;
         }

@@ -4,7 +4,7 @@ ghost use mathlib.Core.Path.{_≡_};
 ghost use Prim.Native.Nat.{_+_, _<_, _≤_};
 ghost use lib.ListN.{length, set};
 ghost use lib.Seq.{sets};
-ghost use Rattle.graph.specs.Limits.{maxEdges, maxClass};
+ghost use Rattle.graph.specs.Limits.{maxVertices, maxEdges, maxClass};
 ghost use Rattle.graph.specs.Plan.{firstAt};
 ghost use Rattle.graph.specs.Lists.{over, edgesOf, edgeBytes, edgesBytes, bytesOf, writeAnswer, outAfter};
 ghost use Rattle.plan_writer.specs.Writing.{edgeAt, Equal, falls, edgeMeasured, edgesMeasured, planMeasured, EdgeFits, EdgesFit, PlanFits};
@@ -47,7 +47,7 @@ fn falls_behind(cursor: Cursor, edge: Edge) -> bool
 
 // The edge number i through its rows, and the cursor past its bytes: its class has one.
 fn measure_edge(vertices: u32, cursor: Cursor, i: usize, edge: Edge) -> EdgeRead
-    requires { ⌜ cursor .at ≤ 4294967295 ⌝ }
+    requires { ⌜ (vertices ≤ maxVertices) × (cursor .at ≤ 4294967295) ⌝ }
     ensures { λ r. ⌜ r ≡ edgeMeasured vertices cursor i edge ⌝ }
 {
     if vertices <= edge.tail {
@@ -87,7 +87,7 @@ fn measure_edges(
     classes: &[u32],
     start: usize,
 ) -> PlanWritten
-    requires { ⌜ Equal (now tails) (now heads) (now costs) (now classes) × (length (now tails) ≤ maxEdges) × (start ≤ 6) ⌝ }
+    requires { ⌜ Equal (now tails) (now heads) (now costs) (now classes) × (vertices ≤ maxVertices) × (length (now tails) ≤ maxEdges) × (start ≤ 5) ⌝ }
     ensures { λ r. ⌜ r ≡ edgesMeasured vertices (firstAt start) 0 (edgesOf (now (tails .entry)) (now (heads .entry)) (now (costs .entry)) (now (classes .entry))) ⌝ }
 {
     let mut cursor = cursor::first(start);

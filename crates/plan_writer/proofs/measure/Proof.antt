@@ -2,8 +2,7 @@
 use native.Mathlib.Omega.{arith}
 use mathlib.Core.Path.{_∙_}
 use lib.ListN.{length}
-use Rattle.leb128.specs.Number.{planGroups}
-use Rattle.leb128.proofs.Laws.{encode-few}
+use Rattle.graph.proofs.Most.{header-most}
 use Rattle.plan_writer.proofs.Writer.{none-refused, many-refused, long-refused, heads-refused, costs-refused, classes-refused, all-measured}
 use borrow.Author.Needs.{needs}
 use Rattle.plan_writer.proofs.measure.Statement.{statement}
@@ -41,20 +40,19 @@ plan-number-len-requires-2 : tie.Need-plan-number-len-requires-2
 plan-number-len-requires-2 c κs = search needs
 
 add-start : tie.Need-add-start
-unfolding planGroups
 add-start c =
     let k = c .before .before .before .before .before in
     let a = k .before .before .before .before .before .before .before .args in
-    omega (arith, encode-few 3 (a .vertices), encode-few 3 (length (a .tails .now)))
+    omega (arith, header-most (a .vertices) (length (a .tails .now)) (k .before .if2 .left) (k .if3 .left))
 
 measure-edges-requires : tie.Need-measure-edges-requires
-unfolding planGroups
 measure-edges-requires c κs =
     let k = c .before .before .before .before .before in
     let a = k .before .before .before .before .before .before .before .args in (
       record { heads = c .before .before .before .before .if4 .left; costs = c .before .before .before .if5 .left; classes = c .before .before .if6 .left },
+      k .before .if2 .left,
       k .if3 .left,
-      omega (arith, encode-few 3 (a .vertices), encode-few 3 (length (a .tails .now))),
+      omega (arith, header-most (a .vertices) (length (a .tails .now)) (k .before .if2 .left) (k .if3 .left)),
     )
 
 returns-7 : tie.Need-returns-7

@@ -1,7 +1,8 @@
 -- `measure_edge` meets its contract: row by row, then the lengths of its numbers.
 use native.Mathlib.Omega.{arith}
 use mathlib.Core.Path.{sym, _∙_}
-use Rattle.plan_writer.proofs.Measuring.{edge-length, edge-few, tail-refused, head-refused, order-refused, cost-refused, class-refused, edge-passed, not-falling}
+use Rattle.graph.proofs.Most.{edge-length, edge-most}
+use Rattle.plan_writer.proofs.Measuring.{tail-refused, head-refused, order-refused, cost-refused, class-refused, edge-passed, not-falling}
 use borrow.Author.Needs.{needs}
 use Rattle.plan_writer.proofs.measure_edge.Statement.{statement}
 use Rattle.plan_writer.proofs.measure_edge.Tie as tie
@@ -41,7 +42,7 @@ add-size : tie.Need-add-size
 add-size c =
     let j = c .before .before .before .before in
     let a = j .before .before .before .before .before .before .before .before .before .before .args in
-    omega (arith, edge-length (a .cursor .tail) (a .edge), edge-few (a .cursor .tail) (a .edge) (j .if5 .left))
+    omega (arith, edge-length (a .cursor .tail) (a .edge), edge-most (a .cursor .tail) (a .edge) (omega arith) (omega arith) (j .if5 .left))
 
 plan-number-len-requires-3 : tie.Need-plan-number-len-requires-3
 plan-number-len-requires-3 c κs = search needs
@@ -50,19 +51,19 @@ add-size-2 : tie.Need-add-size-2
 add-size-2 c =
     let j = c .before .before .before .before .before in
     let a = j .before .before .before .before .before .before .before .before .before .before .args in
-    omega (arith, edge-length (a .cursor .tail) (a .edge), edge-few (a .cursor .tail) (a .edge) (j .if5 .left))
+    omega (arith, edge-length (a .cursor .tail) (a .edge), edge-most (a .cursor .tail) (a .edge) (omega arith) (omega arith) (j .if5 .left))
 
 add-size-3 : tie.Need-add-size-3
 add-size-3 c =
     let j = c .before .before .before .before .before in
     let a = j .before .before .before .before .before .before .before .before .before .before .args in
-    omega (arith, edge-length (a .cursor .tail) (a .edge), edge-few (a .cursor .tail) (a .edge) (j .if5 .left))
+    omega (arith, edge-length (a .cursor .tail) (a .edge), edge-most (a .cursor .tail) (a .edge) (omega arith) (omega arith) (j .if5 .left))
 
 add-t11 : tie.Need-add-t11
 add-t11 c =
     let j = c .before .before .before .before .before .before in
     let a = j .before .before .before .before .before .before .before .before .before .before .args in
-    omega (arith, edge-length (a .cursor .tail) (a .edge), edge-few (a .cursor .tail) (a .edge) (j .if5 .left))
+    omega (arith, edge-length (a .cursor .tail) (a .edge), edge-most (a .cursor .tail) (a .edge) (omega arith) (omega arith) (j .if5 .left))
 
 add-t10 : tie.Need-add-t10
 add-t10 c = search needs

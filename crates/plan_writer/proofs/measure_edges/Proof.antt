@@ -24,7 +24,9 @@ edge-at-requires : tie.Need-edge-at-requires Inv-loop μ-loop
 edge-at-requires c κs = (c .before .before .before .before .before .before .before .pre .0, c .loop-test .taken)
 
 measure-edge-requires : tie.Need-measure-edge-requires Inv-loop μ-loop
-measure-edge-requires c κs = omega (arith, c .before .before .loop .inv .1 .few)
+measure-edge-requires c κs =
+    let k = c .before .before in
+    (k .before .before .before .before .before .before .pre .1, omega (arith, k .loop .inv .1 .few))
 
 enum-known-past : tie.Need-enum-known-past Inv-loop μ-loop
 enum-known-past c = search needs
@@ -49,7 +51,7 @@ loop-again c =
     let k = c .before .before .before .before .before .before in (
       search needs,
       measuring-next (k .loop .inv .1) (k .before .before .before .before .before .before .pre .0) (c .before .before .before .before .before .loop-test .taken) (c .before .before .before .before .edge-at .ensures)
-          (sym (c .before .before .before .measure-edge .ensures) ∙ c .before .past .given .1),
+          (k .before .before .before .before .before .before .pre .1) (sym (c .before .before .before .measure-edge .ensures) ∙ c .before .past .given .1),
     )
 
 returns-2 : tie.Need-returns-2 Inv-loop μ-loop
