@@ -67,16 +67,17 @@ module _ (s : List ℕ) (at : ℕ) where
     one e small = answer-value 4 s at a 1 (ends s at a h₁ 3 e small) (omega arith)
 
     module _ (e₁ : getD s at 0 ≡ a + 128) (a′ : a < 128) where
+
       pub cut-1 : length s ≤ at + 1 → Refused at ≡ read planGroups s at
       cut-1 h = lost (loses s at a h₁ 3 e₁ (lost-end 3 s (at + 1) h))
 
       module _ (b : ℕ) (h₂ : at + 1 < length s) where
         pub two :
-            getD s (at + 1) 0 ≡ b → b < 128 → (r : NumberRead) → r ≡ cond (eqb b 0) (Refused at) (Value (a + 128 * b) (at + 2)) →
-            r ≡ read planGroups s at
-        two e small =
+            getD s (at + 1) 0 ≡ b → b < 128 → (v : ℕ) → v ≡ a + 128 * b → (r : NumberRead) →
+            r ≡ cond (eqb b 0) (Refused at) (Value v (at + 2)) → r ≡ read planGroups s at
+        two e small v is =
             let f = ends s (at + 1) b h₂ 2 e small in
-            ended s at b (a + 128 * b) 2 (λ z. stops s at a h₁ 3 e₁ 1 (rw (← z) f)) (λ p. goes s at a h₁ 3 e₁ b 1 f p) (omega arith)
+            ended s at b v 2 (λ z. stops s at a h₁ 3 e₁ 1 (rw (← z) f)) (λ p. rw is (goes s at a h₁ 3 e₁ b 1 f p)) (omega arith)
 
         module _ (e₂ : getD s (at + 1) 0 ≡ b + 128) (b′ : b < 128) where
           before-two : Lost 2 s (at + 1 + 1) → Lost 4 s at
@@ -87,13 +88,13 @@ module _ (s : List ℕ) (at : ℕ) where
 
           module _ (c : ℕ) (h₃ : at + 2 < length s) where
             pub three :
-                getD s (at + 2) 0 ≡ c → c < 128 → (r : NumberRead) →
-                r ≡ cond (eqb c 0) (Refused at) (Value (a + 128 * (b + 128 * c)) (at + 3)) → r ≡ read planGroups s at
-            three e small =
+                getD s (at + 2) 0 ≡ c → c < 128 → (v : ℕ) → v ≡ a + 128 * (b + 128 * c) → (r : NumberRead) →
+                r ≡ cond (eqb c 0) (Refused at) (Value v (at + 3)) → r ≡ read planGroups s at
+            three e small v is =
                 let f = ends s (at + 1 + 1) c (omega arith) 1 (third c e) small in
-                ended s at c (a + 128 * (b + 128 * c)) 3
+                ended s at c v 3
                 (λ z. loses s at a h₁ 3 e₁ (stops s (at + 1) b h₂ 2 e₂ 1 (rw (← z) f)))
-                (λ p. goes s at a h₁ 3 e₁ (b + 128 * c) 2 (goes s (at + 1) b h₂ 2 e₂ c 1 f p) (omega arith))
+                (λ p. rw is (goes s at a h₁ 3 e₁ (b + 128 * c) 2 (goes s (at + 1) b h₂ 2 e₂ c 1 f p) (omega arith)))
                 (omega arith)
 
             module _ (e₃ : getD s (at + 2) 0 ≡ c + 128) (c′ : c < 128) where
@@ -113,15 +114,16 @@ module _ (s : List ℕ) (at : ℕ) where
                     (lost-none 0 s (at + 1 + 1 + 1 + 1) refl)))
 
                 pub four :
-                    d ≤ 127 → (r : NumberRead) →
-                    r ≡ cond (eqb d 0) (Refused at) (Value (a + 128 * (b + 128 * (c + 128 * d))) (at + 4)) → r ≡ read planGroups s at
-                four small =
+                    d ≤ 127 → (v : ℕ) → v ≡ a + 128 * (b + 128 * (c + 128 * d)) → (r : NumberRead) →
+                    r ≡ cond (eqb d 0) (Refused at) (Value v (at + 4)) → r ≡ read planGroups s at
+                four small v is =
                     let f = ends s (at + 1 + 1 + 1) d (omega arith) 0 (fourth d e₄) (omega arith) in
-                    ended s at d (a + 128 * (b + 128 * (c + 128 * d))) 4
+                    ended s at d v 4
                     (λ z. before-two (stops s (at + 1 + 1) c (omega arith) 1 (third (c + 128) e₃) 1 (rw (← z) f)))
                     (λ p.
-                    goes s at a h₁ 3 e₁ (b + 128 * (c + 128 * d)) 3
+                    rw is
+                    (goes s at a h₁ 3 e₁ (b + 128 * (c + 128 * d)) 3
                     (goes s (at + 1) b h₂ 2 e₂ (c + 128 * d) 2
                     (goes s (at + 1 + 1) c (omega arith) 1 (third (c + 128) e₃) d 1 f p) (omega arith))
-                    (omega arith))
+                    (omega arith)))
                     (omega arith)

@@ -1,2 +1,1 @@
--- The laws that the proofs of the readers share.
-pub mod Groups
+mod Groups

@@ -171,7 +171,7 @@ module _ (v : ℕ) (c : Cursor) (i : ℕ) (e : Edge) (es : List Edge) where
   measured-refused n p h = measured-step ∙ ap (measuredOn (λ (d : Cursor). edgesMeasured v d (i + 1) es)) h
 
 -- an edge that passes has nine bytes at most
-pub measured-most :
+measured-most :
     (v : ℕ) (c : Cursor) (i : ℕ) (e d : Edge) (c′ : Cursor) → v ≤ maxVertices → edgeMeasured v c i e ≡ Next d c′ → c′ .at ≤ c .at + 9
 unfolding edgeMeasured past
 measured-most v c i e d c′ few h =
