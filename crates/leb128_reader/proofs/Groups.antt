@@ -1,129 +1,118 @@
--- A plan number by its groups: which number stands at an offset, by how many of its bytes say that a group follows.
+-- A plan number by its bytes, group by group: a byte below 128 ends it, and one of 0 or none ends it wrongly.
 use Prim.Native.Nat.{ℕ, suc, _+_, _*_, _-_, _^_, _≤_, _<_}
 use native.Mathlib.Omega.{arith}
-use mathlib.Core.Path.{_≡_, refl, ap, _∙_}
-use mathlib.Core.Bool.{Bool, true, false, cond}
+use mathlib.Core.Path.{_≡_, refl}
+use mathlib.Core.Logic.{⊎-elim}
 use mathlib.Core.List.{List}
-use lib.ListN.{length, getD}
-use lib.Dec.{eqb}
-use borrow.Author.Tests.{eqb-true, eqb-false}
+use lib.ListN.{length, getD, List·getD-eq-default}
 use Rattle.leb128.specs.Number.{planGroups, read}
-use Rattle.leb128.specs.declared.NumberRead.{NumberRead}
 use Rattle.leb128.specs.declared.NumberRead.the-variants.{Value, Refused}
-use Rattle.leb128.proofs.ReadAt.{Found, Lost, lost-end, lost-none, found-last, found-more, lost-zero, lost-more, answer-value, answer-lost}
+use Rattle.leb128.proofs.Laws.{split}
+use Rattle.leb128.proofs.ReadAt.{Lost, lost-end, lost-none, found-last, found-more, lost-zero, lost-more, answer-value, answer-lost}
 
--- ---- a group g at the offset i, after which up to k may follow
+-- ---- the byte at an offset, where 0 stands for none
 
-module _ (s : List ℕ) (i g : ℕ) (here : i < length s) where
-  -- it is the last
-  ends : (k : ℕ) → getD s i 0 ≡ g → g < 128 → Found (suc k) s i g 1
-  ends k e small = rw (← e) (found-last k s i here (omega arith))
+pub past : (s : List ℕ) (i : ℕ) → length s ≤ i → 0 ≡ getD s i 0
+past s i h = omega (arith, List·getD-eq-default s 0 h)
 
-  module _ (k : ℕ) (follows : getD s i 0 ≡ g + 128) where
-    -- a number follows, or 0, or none
-    goes : (v n : ℕ) → Found k s (i + 1) v n → 1 ≤ v → Found (suc k) s i (g + 128 * v) (suc n)
-    goes v n f p =
-        let q : getD s i 0 - 128 + 128 * v ≡ g + 128 * v = omega arith in
-        rw (← q) (found-more k s i (i + 1) here (omega arith) (omega arith) v n f p)
+inside : (s : List ℕ) (i : ℕ) → 1 ≤ getD s i 0 → i < length s
+inside s i p = ⊎-elim (λ (h : i < length s). h) (λ (h : length s ≤ i). absurd (omega (arith, past s i h))) (split i (length s))
 
-    stops : (n : ℕ) → Found k s (i + 1) 0 n → Lost (suc k) s i
-    stops n f = lost-zero k s i (i + 1) here (omega arith) (omega arith) 0 n f refl
+-- 0 at o, after a group that says that one follows: the last group of a form that is not the shortest, or none
+zero-after :
+    (k : ℕ) (s : List ℕ) (at o : ℕ) → at < length s → 128 ≤ getD s at 0 → suc at ≡ o → getD s o 0 ≡ 0 → Lost (suc (suc k)) s at
+zero-after k s at o here follows next z =
+    ⊎-elim
+    (λ h. lost-zero (suc k) s at o here follows next (getD s o 0) 1 (found-last k s o h (omega arith)) z)
+    (λ h. lost-more (suc k) s at o here follows next (lost-end (suc k) s o h))
+    (split o (length s))
 
-    loses : Lost k s (i + 1) → Lost (suc k) s i
-    loses f = lost-more k s i (i + 1) here (omega arith) (omega arith) f
-
--- ---- the answer
-
--- of a number v of n bytes whose last group is g, which is not 0 in the shortest form
-module _ (s : List ℕ) (at g v n : ℕ) (zero : g ≡ 0 → Lost 4 s at) (some : 1 ≤ g → Found 4 s at v n) (word : v < 2 ^ 32) where
-  ended-by : (t : Bool) → eqb g 0 ≡ t → cond t (Refused at) (Value v (at + n)) ≡ read planGroups s at
-  unfolding planGroups
-  ended-by true q = answer-lost 4 s at (zero (eqb-true g 0 q))
-  ended-by false q = let p : g ≡ 0 → ⊥ = eqb-false g 0 q in answer-value 4 s at v n (some (omega arith)) word
-
-  ended : (r : NumberRead) → r ≡ cond (eqb g 0) (Refused at) (Value v (at + n)) → r ≡ read planGroups s at
-  ended r e = e ∙ ended-by (eqb g 0) refl
-
--- ---- group by group: the number ends, or the bytes do
+-- ---- the number: each byte before the last has its top bit set, which counts 128, 16384 and 2097152 in the groups' sum
 
 module _ (s : List ℕ) (at : ℕ) where
   lost : Lost 4 s at → Refused at ≡ read planGroups s at
   unfolding planGroups
   lost f = answer-lost 4 s at f
 
-  -- the offset of the third group and of the fourth, counted from the group before
-  third : (x : ℕ) → getD s (at + 2) 0 ≡ x → getD s (at + 1 + 1) 0 ≡ x
-  third x e = let i : at + 1 + 1 ≡ at + 2 = omega arith in ap (λ (k : ℕ). getD s k 0) i ∙ e
+  pub none : length s ≤ at → Refused at ≡ read planGroups s at
+  none h = lost (lost-end 4 s at h)
 
-  fourth : (x : ℕ) → getD s (at + 3) 0 ≡ x → getD s (at + 1 + 1 + 1) 0 ≡ x
-  fourth x e = let i : at + 1 + 1 + 1 ≡ at + 3 = omega arith in ap (λ (k : ℕ). getD s k 0) i ∙ e
-
-  pub cut-0 : length s ≤ at → Refused at ≡ read planGroups s at
-  cut-0 h = lost (lost-end 4 s at h)
-
-  module _ (a : ℕ) (h₁ : at < length s) where
-    pub one : getD s at 0 ≡ a → a < 128 → Value a (at + 1) ≡ read planGroups s at
+  module _ (h₁ : at < length s) where
+    pub one : getD s at 0 < 128 → Value (getD s at 0) (at + 1) ≡ read planGroups s at
     unfolding planGroups
-    one e small = answer-value 4 s at a 1 (ends s at a h₁ 3 e small) (omega arith)
+    one l = answer-value 4 s at (getD s at 0) 1 (found-last 3 s at h₁ l) (omega arith)
 
-    module _ (e₁ : getD s at 0 ≡ a + 128) (a′ : a < 128) where
+    module _ (f₁ : 128 ≤ getD s at 0) where
+      pub zero-2 : getD s (at + 1) 0 ≡ 0 → Refused at ≡ read planGroups s at
+      zero-2 z = lost (zero-after 2 s at (at + 1) h₁ f₁ (omega arith) z)
 
-      pub cut-1 : length s ≤ at + 1 → Refused at ≡ read planGroups s at
-      cut-1 h = lost (loses s at a h₁ 3 e₁ (lost-end 3 s (at + 1) h))
+      module _ (p₂ : 1 ≤ getD s (at + 1) 0) where
+        h₂ : at + 1 < length s
+        h₂ = inside s (at + 1) p₂
 
-      module _ (b : ℕ) (h₂ : at + 1 < length s) where
         pub two :
-            getD s (at + 1) 0 ≡ b → b < 128 → (v : ℕ) → v ≡ a + 128 * b → (r : NumberRead) →
-            r ≡ cond (eqb b 0) (Refused at) (Value v (at + 2)) → r ≡ read planGroups s at
-        two e small v is =
-            let f = ends s (at + 1) b h₂ 2 e small in
-            ended s at b v 2 (λ z. stops s at a h₁ 3 e₁ 1 (rw (← z) f)) (λ p. rw is (goes s at a h₁ 3 e₁ b 1 f p)) (omega arith)
+            getD s (at + 1) 0 < 128 → (v : ℕ) → v + 128 ≡ getD s at 0 + 128 * getD s (at + 1) 0 → v < 2 ^ 32 →
+            Value v (at + 2) ≡ read planGroups s at
+        unfolding planGroups
+        two l v e w =
+            let q : v ≡ getD s at 0 - 128 + 128 * getD s (at + 1) 0 = omega arith in
+            answer-value 4 s at v 2
+            (rw q (found-more 3 s at (at + 1) h₁ f₁ (omega arith) _ 1 (found-last 2 s (at + 1) h₂ l) p₂))
+            w
 
-        module _ (e₂ : getD s (at + 1) 0 ≡ b + 128) (b′ : b < 128) where
-          before-two : Lost 2 s (at + 1 + 1) → Lost 4 s at
-          before-two f = loses s at a h₁ 3 e₁ (loses s (at + 1) b h₂ 2 e₂ f)
+        module _ (f₂ : 128 ≤ getD s (at + 1) 0) where
+          lost-2 : Lost 2 s (at + 2) → Lost 4 s at
+          lost-2 f = lost-more 3 s at (at + 1) h₁ f₁ (omega arith) (lost-more 2 s (at + 1) (at + 2) h₂ f₂ (omega arith) f)
 
-          pub cut-2 : length s ≤ at + 2 → Refused at ≡ read planGroups s at
-          cut-2 h = lost (before-two (lost-end 2 s (at + 1 + 1) (omega arith)))
+          pub zero-3 : getD s (at + 2) 0 ≡ 0 → Refused at ≡ read planGroups s at
+          zero-3 z = lost (lost-more 3 s at (at + 1) h₁ f₁ (omega arith) (zero-after 1 s (at + 1) (at + 2) h₂ f₂ (omega arith) z))
 
-          module _ (c : ℕ) (h₃ : at + 2 < length s) where
+          module _ (p₃ : 1 ≤ getD s (at + 2) 0) where
+            h₃ : at + 2 < length s
+            h₃ = inside s (at + 2) p₃
+
             pub three :
-                getD s (at + 2) 0 ≡ c → c < 128 → (v : ℕ) → v ≡ a + 128 * (b + 128 * c) → (r : NumberRead) →
-                r ≡ cond (eqb c 0) (Refused at) (Value v (at + 3)) → r ≡ read planGroups s at
-            three e small v is =
-                let f = ends s (at + 1 + 1) c (omega arith) 1 (third c e) small in
-                ended s at c v 3
-                (λ z. loses s at a h₁ 3 e₁ (stops s (at + 1) b h₂ 2 e₂ 1 (rw (← z) f)))
-                (λ p. rw is (goes s at a h₁ 3 e₁ (b + 128 * c) 2 (goes s (at + 1) b h₂ 2 e₂ c 1 f p) (omega arith)))
-                (omega arith)
+                getD s (at + 2) 0 < 128 → (v : ℕ) → v + 16512 ≡ getD s at 0 + 128 * getD s (at + 1) 0 + 16384 * getD s (at + 2) 0 →
+                v < 2 ^ 32 → Value v (at + 3) ≡ read planGroups s at
+            unfolding planGroups
+            three l v e w =
+                let q : v ≡ getD s at 0 - 128 + 128 * (getD s (at + 1) 0 - 128 + 128 * getD s (at + 2) 0) = omega arith in
+                answer-value 4 s at v 3
+                (rw q
+                (found-more 3 s at (at + 1) h₁ f₁ (omega arith) _ 2
+                (found-more 2 s (at + 1) (at + 2) h₂ f₂ (omega arith) _ 1 (found-last 1 s (at + 2) h₃ l) p₃)
+                (omega arith)))
+                w
 
-            module _ (e₃ : getD s (at + 2) 0 ≡ c + 128) (c′ : c < 128) where
-              before-three : Lost 1 s (at + 1 + 1 + 1) → Lost 4 s at
-              before-three f = before-two (loses s (at + 1 + 1) c (omega arith) 1 (third (c + 128) e₃) f)
+            module _ (f₃ : 128 ≤ getD s (at + 2) 0) where
+              pub zero-4 : getD s (at + 3) 0 ≡ 0 → Refused at ≡ read planGroups s at
+              zero-4 z = lost (lost-2 (zero-after 0 s (at + 2) (at + 3) h₃ f₃ (omega arith) z))
 
-              pub cut-3 : length s ≤ at + 3 → Refused at ≡ read planGroups s at
-              cut-3 h = lost (before-three (lost-end 1 s (at + 1 + 1 + 1) (omega arith)))
+              module _ (p₄ : 1 ≤ getD s (at + 3) 0) where
+                h₄ : at + 3 < length s
+                h₄ = inside s (at + 3) p₄
 
-              module _ (d : ℕ) (h₄ : at + 3 < length s) (e₄ : getD s (at + 3) 0 ≡ d) where
                 -- the fourth group is the last that may be
-                pub over : 127 < d → Refused at ≡ read planGroups s at
-                over h =
+                pub over : 128 ≤ getD s (at + 3) 0 → Refused at ≡ read planGroups s at
+                over f₄ =
                     lost
-                    (before-three
-                    (lost-more 0 s (at + 1 + 1 + 1) (at + 1 + 1 + 1 + 1) (omega arith) (omega (arith, fourth d e₄)) (omega arith)
-                    (lost-none 0 s (at + 1 + 1 + 1 + 1) refl)))
+                    (lost-2
+                    (lost-more 1 s (at + 2) (at + 3) h₃ f₃ (omega arith)
+                    (lost-more 0 s (at + 3) (at + 4) h₄ f₄ (omega arith) (lost-none 0 s (at + 4) refl))))
 
                 pub four :
-                    d ≤ 127 → (v : ℕ) → v ≡ a + 128 * (b + 128 * (c + 128 * d)) → (r : NumberRead) →
-                    r ≡ cond (eqb d 0) (Refused at) (Value v (at + 4)) → r ≡ read planGroups s at
-                four small v is =
-                    let f = ends s (at + 1 + 1 + 1) d (omega arith) 0 (fourth d e₄) (omega arith) in
-                    ended s at d v 4
-                    (λ z. before-two (stops s (at + 1 + 1) c (omega arith) 1 (third (c + 128) e₃) 1 (rw (← z) f)))
-                    (λ p.
-                    rw is
-                    (goes s at a h₁ 3 e₁ (b + 128 * (c + 128 * d)) 3
-                    (goes s (at + 1) b h₂ 2 e₂ (c + 128 * d) 2
-                    (goes s (at + 1 + 1) c (omega arith) 1 (third (c + 128) e₃) d 1 f p) (omega arith))
+                    getD s (at + 3) 0 < 128 → (v : ℕ) →
+                    v + 2113664 ≡ getD s at 0 + 128 * getD s (at + 1) 0 + 16384 * getD s (at + 2) 0 + 2097152 * getD s (at + 3) 0 →
+                    v < 2 ^ 32 → Value v (at + 4) ≡ read planGroups s at
+                unfolding planGroups
+                four l v e w =
+                    let q : v ≡ getD s at 0 - 128 + 128 * (getD s (at + 1) 0 - 128 + 128 * (getD s (at + 2) 0 - 128 + 128 * getD s (at + 3) 0))
+                    = omega arith in
+                    answer-value 4 s at v 4
+                    (rw q
+                    (found-more 3 s at (at + 1) h₁ f₁ (omega arith) _ 3
+                    (found-more 2 s (at + 1) (at + 2) h₂ f₂ (omega arith) _ 2
+                    (found-more 1 s (at + 2) (at + 3) h₃ f₃ (omega arith) _ 1 (found-last 0 s (at + 3) h₄ l) p₄)
+                    (omega arith))
                     (omega arith)))
-                    (omega arith)
+                    w

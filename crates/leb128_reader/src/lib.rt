@@ -1,58 +1,52 @@
 // One number read: a plan number, up to four groups; a number of a bench job, up to five.
 ghost use mathlib.Core.Path.{_≡_};
-ghost use mathlib.Core.Bool.{cond};
-ghost use lib.Dec.{eqb};
-ghost use Rattle.leb128.specs.declared.NumberRead.the-variants.{Value, Refused};
+ghost use lib.ListN.{getD};
 ghost use Rattle.leb128.specs.Number.{planGroups, read, jobGroups};
 use leb128::NumberRead;
 
-// The plan number at an offset.
+// The byte at an offset, 0 past the end.
+fn byte_at(bytes: &[u8], at: usize) -> u32
+    ensures { λ r. ⌜ r ≡ getD (now (bytes .entry)) at 0 ⌝ }
+{
+    if at < bytes.len() { bytes[at] as u32 } else { 0 }
+}
+
+// The plan number at an offset. After a group that another follows, 0 is refused: it is the last group of
+// a form that is not the shortest, or the bytes have ended.
 pub fn read_plan_number(bytes: &[u8], at: usize) -> NumberRead
     ensures { λ r. ⌜ r ≡ read planGroups (now (bytes .entry)) at ⌝ }
 {
     if bytes.len() <= at {
         return NumberRead::Refused(at);
     }
-    let left = bytes.len() - at;
     let a = bytes[at] as u32;
     if a < 128 {
         return NumberRead::Value(a, at + 1);
     }
-    if left < 2 {
+    let b = byte_at(bytes, at + 1);
+    if b == 0 {
         return NumberRead::Refused(at);
     }
-    let b = bytes[at + 1] as u32;
     let two = a - 128 + 128 * b;
     if b < 128 {
-        return ended(b, two, at, at + 2);
+        return NumberRead::Value(two, at + 2);
     }
-    if left < 3 {
+    let c = byte_at(bytes, at + 2);
+    if c == 0 {
         return NumberRead::Refused(at);
     }
-    let c = bytes[at + 2] as u32;
     let three = two - 16384 + 16384 * c;
     if c < 128 {
-        return ended(c, three, at, at + 3);
+        return NumberRead::Value(three, at + 3);
     }
-    if left < 4 {
+    let d = byte_at(bytes, at + 3);
+    if d == 0 {
         return NumberRead::Refused(at);
     }
-    let d = bytes[at + 3] as u32;
     if 127 < d {
         return NumberRead::Refused(at);
     }
-    let four = three - 2097152 + 2097152 * d;
-    ended(d, four, at, at + 4)
-}
-
-// A number with its last group: not the shortest form where that is 0.
-fn ended(last: u32, value: u32, at: usize, next: usize) -> NumberRead
-    ensures { λ r. ⌜ r ≡ cond (eqb last 0) (Refused at) (Value value next) ⌝ }
-{
-    if last == 0 {
-        return NumberRead::Refused(at);
-    }
-    NumberRead::Value(value, next)
+    NumberRead::Value(three - 2097152 + 2097152 * d, at + 4)
 }
 
 // The number of a bench job at an offset.

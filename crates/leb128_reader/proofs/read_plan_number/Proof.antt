@@ -1,18 +1,13 @@
--- `read_plan_number` meets its contract: each answer follows the groups read so far.
-use Prim.Native.Nat.{_+_, _-_}
+-- `read_plan_number` meets its contract: each answer follows the bytes read so far.
+use Prim.Native.Nat.{_+_}
 use native.Mathlib.Omega.{arith}
-use mathlib.Core.Path.{refl}
-use lib.ListN.{getD}
-use Rattle.leb128_reader.proofs.Groups.{one, two, three, four, over, cut-0, cut-1, cut-2, cut-3}
+use Rattle.leb128_reader.proofs.Groups.{none, one, two, three, four, zero-2, zero-3, zero-4, over}
 use borrow.Author.Needs.{needs}
 use Rattle.leb128_reader.proofs.read_plan_number.Statement.{statement}
 use Rattle.leb128_reader.proofs.read_plan_number.Tie as tie
 
 returns : tie.Need-returns
-returns c = cut-0 _ _ (c .if1 .taken)
-
-sub-left : tie.Need-sub-left
-sub-left c = search needs
+returns c = none _ _ (c .if1 .taken)
 
 shared-slice-read-a : tie.Need-shared-slice-read-a
 shared-slice-read-a c = search needs
@@ -20,34 +15,32 @@ shared-slice-read-a c = search needs
 cast-a : tie.Need-cast-a
 cast-a c = omega (arith, c .before .before .shared-slice-known .given (c .before .before .before .args .at))
 
-add-t15 : tie.Need-add-t15
-add-t15 c = search needs
+add-t13 : tie.Need-add-t13
+add-t13 c = search needs
 
 returns-2 : tie.Need-returns-2
 returns-2 c =
     let k = c .before .before .before in
     let x = k .before .args in
-    one (x .bytes .now) (x .at) _ (omega arith) refl (c .if2 .taken)
+    one (x .bytes .now) (x .at) (omega arith) (c .if2 .taken)
+
+add-byte-at : tie.Need-add-byte-at
+add-byte-at c = search needs
+
+byte-at-requires : tie.Need-byte-at-requires
+byte-at-requires c κs = search needs
 
 returns-3 : tie.Need-returns-3
 returns-3 c =
-    let k = c .before .before .before .before in
+    let k = c .before .before .before .before .before in
     let x = k .before .args in
-    let s = x .bytes .now in
-    cut-1 s (x .at)
-    (getD s (x .at) 0 - 128) (omega arith) (omega arith) (omega (arith, k .shared-slice-known .given (x .at))) (omega arith)
-
-add-b : tie.Need-add-b
-add-b c = search needs
-
-shared-slice-read-b : tie.Need-shared-slice-read-b
-shared-slice-read-b c = search needs
-
-cast-b : tie.Need-cast-b
-cast-b c = omega (arith, c .before .before .before .before .before .shared-slice-known .given (c .before .before .before .before .before .before .args .at + 1))
+    zero-2 (x .bytes .now) (x .at) (omega arith) (omega arith) (omega arith)
 
 mul-two : tie.Need-mul-two
-mul-two c = omega (arith, c .before .before .before .before .before .shared-slice-known .given (c .before .before .before .before .before .before .args .at + 1))
+mul-two c =
+    let k = c .before .before .before .before .before in
+    let x = k .before .args in
+    omega (arith, k .shared-slice-known .given (x .at), k .shared-slice-known .given (x .at + 1))
 
 add-two : tie.Need-add-two
 add-two c =
@@ -55,44 +48,35 @@ add-two c =
     let x = k .before .args in
     omega (arith, k .shared-slice-known .given (x .at), k .shared-slice-known .given (x .at + 1))
 
-add-ended : tie.Need-add-ended
-add-ended c = search needs
-
-ended-requires : tie.Need-ended-requires
-ended-requires c κs = search needs
+add-t16 : tie.Need-add-t16
+add-t16 c = search needs
 
 returns-4 : tie.Need-returns-4
 returns-4 c =
-    let k = c .before .before .before .before .before .before .before in
+    let k = c .before .before .before .before .before .before in
     let x = k .before .args in
-    let s = x .bytes .now in
-    two s (x .at)
-    (getD s (x .at) 0 - 128) (omega arith) (omega arith) (omega (arith, k .shared-slice-known .given (x .at)))
-    (getD s (x .at + 1) 0) (omega arith) refl (c .before .if4 .taken) _ (omega arith) _ (c .ended .ensures)
+    two (x .bytes .now) (x .at) (omega arith) (omega arith) (omega arith) (omega arith) _ (omega arith) (omega (arith, k .shared-slice-known .given (x .at), k .shared-slice-known .given (x .at + 1)))
+
+add-byte-at-2 : tie.Need-add-byte-at-2
+add-byte-at-2 c = search needs
+
+byte-at-requires-2 : tie.Need-byte-at-requires-2
+byte-at-requires-2 c κs = search needs
 
 returns-5 : tie.Need-returns-5
 returns-5 c =
-    let k = c .before .before .before .before .before .before .before in
+    let k = c .before .before .before .before .before .before .before .before in
     let x = k .before .args in
-    let s = x .bytes .now in
-    cut-2 s (x .at)
-    (getD s (x .at) 0 - 128) (omega arith) (omega arith) (omega (arith, k .shared-slice-known .given (x .at)))
-    (getD s (x .at + 1) 0 - 128) (omega arith) (omega arith) (omega (arith, k .shared-slice-known .given (x .at + 1))) (omega arith)
-
-add-c : tie.Need-add-c
-add-c c = search needs
-
-shared-slice-read-c : tie.Need-shared-slice-read-c
-shared-slice-read-c c = search needs
-
-cast-c : tie.Need-cast-c
-cast-c c = omega (arith, c .before .before .before .before .before .before .before .before .shared-slice-known .given (c .before .before .before .before .before .before .before .before .before .args .at + 2))
+    zero-3 (x .bytes .now) (x .at) (omega arith) (omega arith) (omega arith) (omega arith) (omega arith)
 
 sub-three : tie.Need-sub-three
 sub-three c = search needs
 
 mul-three : tie.Need-mul-three
-mul-three c = omega (arith, c .before .before .before .before .before .before .before .before .shared-slice-known .given (c .before .before .before .before .before .before .before .before .before .args .at + 2))
+mul-three c =
+    let k = c .before .before .before .before .before .before .before .before in
+    let x = k .before .args in
+    omega (arith, k .shared-slice-known .given (x .at), k .shared-slice-known .given (x .at + 1), k .shared-slice-known .given (x .at + 2))
 
 add-three : tie.Need-add-three
 add-three c =
@@ -100,118 +84,84 @@ add-three c =
     let x = k .before .args in
     omega (arith, k .shared-slice-known .given (x .at), k .shared-slice-known .given (x .at + 1), k .shared-slice-known .given (x .at + 2))
 
-add-ended-2 : tie.Need-add-ended-2
-add-ended-2 c = search needs
-
-ended-requires-2 : tie.Need-ended-requires-2
-ended-requires-2 c κs = search needs
+add-t17 : tie.Need-add-t17
+add-t17 c = search needs
 
 returns-6 : tie.Need-returns-6
 returns-6 c =
-    let k = c .before .before .before .before .before .before .before .before .before .before in
+    let k = c .before .before .before .before .before .before .before .before .before in
     let x = k .before .args in
-    let s = x .bytes .now in
-    three s (x .at)
-    (getD s (x .at) 0 - 128) (omega arith) (omega arith) (omega (arith, k .shared-slice-known .given (x .at)))
-    (getD s (x .at + 1) 0 - 128) (omega arith) (omega arith) (omega (arith, k .shared-slice-known .given (x .at + 1)))
-    (getD s (x .at + 2) 0) (omega arith) refl (c .before .if6 .taken) _ (omega arith) _ (c .ended2 .ensures)
+    three (x .bytes .now) (x .at) (omega arith) (omega arith) (omega arith) (omega arith) (omega arith) (omega arith) _ (omega arith) (omega (arith, k .shared-slice-known .given (x .at), k .shared-slice-known .given (x .at + 1), k .shared-slice-known .given (x .at + 2)))
+
+add-byte-at-3 : tie.Need-add-byte-at-3
+add-byte-at-3 c = search needs
+
+byte-at-requires-3 : tie.Need-byte-at-requires-3
+byte-at-requires-3 c κs = search needs
 
 returns-7 : tie.Need-returns-7
 returns-7 c =
-    let k = c .before .before .before .before .before .before .before .before .before .before in
+    let k = c .before .before .before .before .before .before .before .before .before .before .before in
     let x = k .before .args in
-    let s = x .bytes .now in
-    cut-3 s (x .at)
-    (getD s (x .at) 0 - 128) (omega arith) (omega arith) (omega (arith, k .shared-slice-known .given (x .at)))
-    (getD s (x .at + 1) 0 - 128) (omega arith) (omega arith) (omega (arith, k .shared-slice-known .given (x .at + 1)))
-    (getD s (x .at + 2) 0 - 128) (omega arith) (omega arith) (omega (arith, k .shared-slice-known .given (x .at + 2))) (omega arith)
-
-add-d : tie.Need-add-d
-add-d c = search needs
-
-shared-slice-read-d : tie.Need-shared-slice-read-d
-shared-slice-read-d c = search needs
-
-cast-d : tie.Need-cast-d
-cast-d c = omega (arith, c .before .before .before .before .before .before .before .before .before .before .before .shared-slice-known .given (c .before .before .before .before .before .before .before .before .before .before .before .before .args .at + 3))
+    zero-4 (x .bytes .now) (x .at) (omega arith) (omega arith) (omega arith) (omega arith) (omega arith) (omega arith) (omega arith)
 
 returns-8 : tie.Need-returns-8
 returns-8 c =
     let k = c .before .before .before .before .before .before .before .before .before .before .before .before in
     let x = k .before .args in
-    let s = x .bytes .now in
-    over s (x .at)
-    (getD s (x .at) 0 - 128) (omega arith) (omega arith) (omega (arith, k .shared-slice-known .given (x .at)))
-    (getD s (x .at + 1) 0 - 128) (omega arith) (omega arith) (omega (arith, k .shared-slice-known .given (x .at + 1)))
-    (getD s (x .at + 2) 0 - 128) (omega arith) (omega arith) (omega (arith, k .shared-slice-known .given (x .at + 2)))
-    (getD s (x .at + 3) 0) (omega arith) refl (c .if8 .taken)
+    over (x .bytes .now) (x .at) (omega arith) (omega arith) (omega arith) (omega arith) (omega arith) (omega arith) (omega arith) (omega arith)
 
-sub-four : tie.Need-sub-four
-sub-four c = search needs
+sub-t14 : tie.Need-sub-t14
+sub-t14 c = search needs
 
-mul-four : tie.Need-mul-four
-mul-four c = search needs
+mul-t15 : tie.Need-mul-t15
+mul-t15 c = search needs
 
-add-four : tie.Need-add-four
-add-four c =
+add-t18 : tie.Need-add-t18
+add-t18 c =
     let k = c .before .before .before .before .before .before .before .before .before .before .before .before in
     let x = k .before .args in
     omega (arith, k .shared-slice-known .given (x .at), k .shared-slice-known .given (x .at + 1), k .shared-slice-known .given (x .at + 2), k .shared-slice-known .given (x .at + 3))
 
-add-ended-3 : tie.Need-add-ended-3
-add-ended-3 c = search needs
-
-ended-requires-3 : tie.Need-ended-requires-3
-ended-requires-3 c κs = search needs
+add-t9 : tie.Need-add-t9
+add-t9 c = search needs
 
 returns-9 : tie.Need-returns-9
 returns-9 c =
-    let k = c .before .before .before .before .before .before .before .before .before .before .before .before .before in
+    let k = c .before .before .before .before .before .before .before .before .before .before .before .before in
     let x = k .before .args in
-    let s = x .bytes .now in
-    four s (x .at)
-    (getD s (x .at) 0 - 128) (omega arith) (omega arith) (omega (arith, k .shared-slice-known .given (x .at)))
-    (getD s (x .at + 1) 0 - 128) (omega arith) (omega arith) (omega (arith, k .shared-slice-known .given (x .at + 1)))
-    (getD s (x .at + 2) 0 - 128) (omega arith) (omega arith) (omega (arith, k .shared-slice-known .given (x .at + 2)))
-    (getD s (x .at + 3) 0) (omega arith) refl (c .before .if8 .left) _ (omega arith) _ (c .ended3 .ensures)
+    four (x .bytes .now) (x .at) (omega arith) (omega arith) (omega arith) (omega arith) (omega arith) (omega arith) (omega arith) (omega arith) _ (omega arith) (omega (arith, k .shared-slice-known .given (x .at), k .shared-slice-known .given (x .at + 1), k .shared-slice-known .given (x .at + 2), k .shared-slice-known .given (x .at + 3)))
 
 pub read-plan-number-spec : {M : Type 1} → statement M
 read-plan-number-spec =
     tie.close
     (tie.spec
     returns
-    sub-left
     shared-slice-read-a
     cast-a
-    add-t15
+    add-t13
     returns-2
+    add-byte-at
+    byte-at-requires
     returns-3
-    add-b
-    shared-slice-read-b
-    cast-b
     mul-two
     add-two
-    add-ended
-    ended-requires
+    add-t16
     returns-4
+    add-byte-at-2
+    byte-at-requires-2
     returns-5
-    add-c
-    shared-slice-read-c
-    cast-c
     sub-three
     mul-three
     add-three
-    add-ended-2
-    ended-requires-2
+    add-t17
     returns-6
+    add-byte-at-3
+    byte-at-requires-3
     returns-7
-    add-d
-    shared-slice-read-d
-    cast-d
     returns-8
-    sub-four
-    mul-four
-    add-four
-    add-ended-3
-    ended-requires-3
+    sub-t14
+    mul-t15
+    add-t18
+    add-t9
     returns-9)
