@@ -21,27 +21,29 @@ pub fn plan_number_len(value: u32) -> usize
     }
 }
 
-// Writes the groups of a plan number from an offset on, where they fit.
-fn lay_groups(out: &mut [u8], at: usize, value: u32)
+// Writes a plan number that has a form and room at an offset, and gives the offset past it.
+pub fn lay_plan_number(out: &mut [u8], at: usize, value: u32) -> usize
     requires { ⌜ (value < 128 ^ planGroups) × (at + length (encode planGroups value) ≤ length (now out)) ⌝ }
+    ensures { λ r. ⌜ r ≡ at + length (encode planGroups value) ⌝ }
     ensures { λ _. ⌜ now (out .exit) ≡ sets (now (out .entry)) at (encode planGroups value) ⌝ }
 {
     if value < 128 {
         out[at] = value as u8;
-        return;
+        return at + 1;
     }
     out[at] = (value % 128 + 128) as u8;
     if value < 16384 {
         out[at + 1] = (value / 128) as u8;
-        return;
+        return at + 2;
     }
     out[at + 1] = (value / 128 % 128 + 128) as u8;
     if value < 2097152 {
         out[at + 2] = (value / 16384) as u8;
-        return;
+        return at + 3;
     }
     out[at + 2] = (value / 16384 % 128 + 128) as u8;
     out[at + 3] = (value / 2097152) as u8;
+    at + 4
 }
 
 // Writes a plan number at an offset, where it fits.
@@ -55,10 +57,8 @@ pub fn write_plan_number(out: &mut [u8], at: usize, value: u32) -> NumberWritten
     if out.len() <= at {
         return NumberWritten::NoRoom;
     }
-    let size = plan_number_len(value);
-    if out.len() - at < size {
+    if out.len() - at < plan_number_len(value) {
         return NumberWritten::NoRoom;
     }
-    lay_groups(out, at, value);
-    NumberWritten::Next(at + size)
+    NumberWritten::Next(lay_plan_number(out, at, value))
 }

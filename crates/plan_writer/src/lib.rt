@@ -16,7 +16,6 @@ use graph::MAX_COST;
 use graph::MAX_EDGES;
 use graph::MAX_VERTICES;
 use graph::PlanWritten;
-use leb128::NumberWritten;
 use plan_check::cursor;
 
 // The edge number i of four lists.
@@ -156,18 +155,9 @@ fn lay_edge(out: &mut [u8], at: usize, tail: u32, edge: Edge) -> usize
     ensures { λ r. ⌜ r ≡ at + length (edgeBytes tail edge) ⌝ }
     ensures { λ _. ⌜ now (out .exit) ≡ sets (now (out .entry)) at (edgeBytes tail edge) ⌝ }
 {
-    let rise = edge.tail - tail;
-    let NumberWritten::Next(head_at) = leb128_writer::write_plan_number(out, at, rise) else {
-        return at;
-    };
-    let NumberWritten::Next(cost_at) = leb128_writer::write_plan_number(out, head_at, edge.head)
-    else {
-        return at;
-    };
-    let NumberWritten::Next(class_at) = leb128_writer::write_plan_number(out, cost_at, edge.cost)
-    else {
-        return at;
-    };
+    let head_at = leb128_writer::lay_plan_number(out, at, edge.tail - tail);
+    let cost_at = leb128_writer::lay_plan_number(out, head_at, edge.head);
+    let class_at = leb128_writer::lay_plan_number(out, cost_at, edge.cost);
     lay_class(out, class_at, edge.class)
 }
 
@@ -200,13 +190,8 @@ fn lay(vertices: u32, tails: &[u32], heads: &[u32], costs: &[u32], classes: &[u3
     ensures { λ _. ⌜ now (out .exit) ≡ over (bytesOf vertices (edgesOf (now (tails .entry)) (now (heads .entry)) (now (costs .entry)) (now (classes .entry)))) (now (out .entry)) ⌝ }
 {
     let count = tails.len() as u32;
-    let NumberWritten::Next(count_at) = leb128_writer::write_plan_number(out, 0, vertices) else {
-        return;
-    };
-    let NumberWritten::Next(edges_at) = leb128_writer::write_plan_number(out, count_at, count)
-    else {
-        return;
-    };
+    let count_at = leb128_writer::lay_plan_number(out, 0, vertices);
+    let edges_at = leb128_writer::lay_plan_number(out, count_at, count);
     lay_edges(tails, heads, costs, classes, out, edges_at);
 }
 

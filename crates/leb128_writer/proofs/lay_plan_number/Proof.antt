@@ -1,15 +1,17 @@
--- `lay_groups` meets its contract: by the number's size, its form is written.
+-- `lay_plan_number` meets its contract: by the number's size, its form is written.
+use Prim.Native.Nat.{ℕ, _+_}
 use native.Mathlib.Omega.{arith}
 use native.Mathlib.Numerals.{add-one}
 use mathlib.Core.Path.{sym, ap}
-use lib.ListN.{length-set}
+use mathlib.Core.List.{List}
+use lib.ListN.{length, length-set}
 use lib.Seq.{sets}
 use Rattle.leb128.specs.Number.{planGroups}
 use Rattle.leb128.proofs.Laws.{encode-last, encode-some, encode-at-least}
 use Rattle.leb128.proofs.Write.{add-two, add-three, encode-two, encode-three, encode-four}
 use borrow.Author.Needs.{needs}
-use Rattle.leb128_writer.proofs.lay_groups.Statement.{statement}
-use Rattle.leb128_writer.proofs.lay_groups.Tie as tie
+use Rattle.leb128_writer.proofs.lay_plan_number.Statement.{statement}
+use Rattle.leb128_writer.proofs.lay_plan_number.Tie as tie
 
 cast-out : tie.Need-cast-out
 cast-out c = search needs
@@ -18,6 +20,9 @@ slice-write-out : tie.Need-slice-write-out
 unfolding planGroups
 slice-write-out c = omega (arith, encode-some 4 (c .before .args .value) (omega arith))
 
+add-result : tie.Need-add-result
+add-result c = search needs
+
 same-length : tie.Need-same-length
 same-length c = search needs
 
@@ -25,7 +30,8 @@ returns : tie.Need-returns
 unfolding planGroups
 returns c =
     let x = c .before .args in
-    sym (ap (sets (x .out .now) (x .at)) (encode-last 3 (x .value) (c .if1 .taken)))
+    let e = encode-last 3 (x .value) (c .if1 .taken) in
+    (sym (ap (λ (g : List ℕ). x .at + length g) e), sym (ap (sets (x .out .now) (x .at)) e))
 
 add-out : tie.Need-add-out
 add-out c = search needs
@@ -47,6 +53,9 @@ slice-write-out-3 : tie.Need-slice-write-out-3
 unfolding planGroups
 slice-write-out-3 c = simp length-set (omega (arith, encode-at-least 1 4 (c .before .before .args .value) (omega arith) (c .before .if1 .left)))
 
+add-result-2 : tie.Need-add-result-2
+add-result-2 c = search needs
+
 same-length-2 : tie.Need-same-length-2
 same-length-2 c = search needs
 
@@ -54,7 +63,8 @@ returns-2 : tie.Need-returns-2
 unfolding planGroups
 returns-2 c =
     let x = c .before .before .args in
-    simp add-one (sym (ap (sets (x .out .now) (x .at)) (encode-two 2 (x .value) (c .before .if1 .left) (c .if2 .taken))))
+    let e = encode-two 2 (x .value) (c .before .if1 .left) (c .if2 .taken) in
+    (sym (ap (λ (g : List ℕ). x .at + length g) e), simp add-one (sym (ap (sets (x .out .now) (x .at)) e)))
 
 add-out-3 : tie.Need-add-out-3
 add-out-3 c = search needs
@@ -79,6 +89,9 @@ slice-write-out-5 : tie.Need-slice-write-out-5
 unfolding planGroups
 slice-write-out-5 c = simp length-set (omega (arith, encode-at-least 2 4 (c .before .before .before .args .value) (omega arith) (c .before .if2 .left)))
 
+add-result-3 : tie.Need-add-result-3
+add-result-3 c = search needs
+
 same-length-3 : tie.Need-same-length-3
 same-length-3 c = search needs
 
@@ -86,7 +99,8 @@ returns-3 : tie.Need-returns-3
 unfolding planGroups
 returns-3 c =
     let x = c .before .before .before .args in
-    simp (add-one, add-two) (sym (ap (sets (x .out .now) (x .at)) (encode-three 1 (x .value) (c .before .if2 .left) (c .if3 .taken))))
+    let e = encode-three 1 (x .value) (c .before .if2 .left) (c .if3 .taken) in
+    (sym (ap (λ (g : List ℕ). x .at + length g) e), simp (add-one, add-two) (sym (ap (sets (x .out .now) (x .at)) e)))
 
 add-out-6 : tie.Need-add-out-6
 add-out-6 c = search needs
@@ -112,6 +126,9 @@ slice-write-out-7 : tie.Need-slice-write-out-7
 unfolding planGroups
 slice-write-out-7 c = simp length-set (omega (arith, encode-at-least 3 4 (c .before .before .before .args .value) (omega arith) (c .if3 .left)))
 
+add-result-4 : tie.Need-add-result-4
+add-result-4 c = search needs
+
 same-length-4 : tie.Need-same-length-4
 same-length-4 c = search needs
 
@@ -119,14 +136,16 @@ returns-4 : tie.Need-returns-4
 unfolding planGroups
 returns-4 c =
     let x = c .before .before .before .args in
-    simp (add-one, add-two, add-three) (sym (ap (sets (x .out .now) (x .at)) (encode-four 0 (x .value) (c .if3 .left) (c .before .before .before .pre .0))))
+    let e = encode-four 0 (x .value) (c .if3 .left) (c .before .before .before .pre .0) in
+    (sym (ap (λ (g : List ℕ). x .at + length g) e), simp (add-one, add-two, add-three) (sym (ap (sets (x .out .now) (x .at)) e)))
 
-pub lay-groups-spec : {M : Type 1} → statement M
-lay-groups-spec =
+pub lay-plan-number-spec : {M : Type 1} → statement M
+lay-plan-number-spec =
     tie.close
     (tie.spec
     cast-out
     slice-write-out
+    add-result
     same-length
     returns
     add-out
@@ -135,6 +154,7 @@ lay-groups-spec =
     cast-out-3
     add-out-2
     slice-write-out-3
+    add-result-2
     same-length-2
     returns-2
     add-out-3
@@ -144,6 +164,7 @@ lay-groups-spec =
     cast-out-5
     add-out-5
     slice-write-out-5
+    add-result-3
     same-length-3
     returns-3
     add-out-6
@@ -153,5 +174,6 @@ lay-groups-spec =
     cast-out-7
     add-out-8
     slice-write-out-7
+    add-result-4
     same-length-4
     returns-4)
