@@ -2,17 +2,10 @@
 use Prim.Native.Nat.{ℕ, suc, _+_, _-_, _^_, _≤_, _<_}
 use native.Mathlib.Omega.{arith}
 use mathlib.Core.Path.{_≡_, refl, sym, ap, _∙_, subst}
-use mathlib.Core.Logic.{⊎-elim}
 use mathlib.Core.List.{List, [], _∷_, _++_, append-assoc}
 use lib.ListN.{length, set, length-append}
 use lib.Seq.{sets, length-sets}
-use denote.Enum.Declared.{tagOf}
-use types.Run.{OneOf}
-use Rattle.leb128.specs.Number.{encode, planGroups, writeAnswer, written}
-use Rattle.leb128.specs.declared.NumberWritten.{NumberWritten}
-use Rattle.leb128.specs.declared.NumberWritten.the-variants.{Next, TooLarge, NoRoom}
-use Rattle.leb128.proofs.NumberWritten
-use Rattle.leb128.proofs.Write.{room}
+use Rattle.leb128.specs.Number.{encode, planGroups}
 use Rattle.graph.specs.declared.Edge.{Edge}
 use Rattle.graph.specs.Lists.{edgesOf, edgeBytes, edgesBytes}
 use Rattle.plan_writer.specs.Writing.{Equal, edgeAt, LayableEdge, Layable, EdgeFits, EdgesFit}
@@ -35,39 +28,22 @@ pub record Laid (s : List ℕ) (at : ℕ) (bytes s′ : List ℕ) (next : ℕ) :
 pub laid-none : (s : List ℕ) (at : ℕ) → Laid s at [] s at
 laid-none s at = record { memory = refl; offset = omega arith }
 
-not-other : (r : NumberWritten) (n : ℕ) → r ≡ Next n → OneOf (1 ∷ 2 ∷ []) (tagOf NumberWritten.the-type r) → ⊥
-not-other (Next m) n e k = ⊎-elim (λ h. omega arith) (λ h. omega arith) k
-not-other TooLarge n e k = let z : _≡_ {A = ℕ} 0 1 = cc in omega arith
-not-other NoRoom n e k = let z : _≡_ {A = ℕ} 0 1 = cc in omega arith
-
 -- one number more
-module _ {s : List ℕ} {at : ℕ} {b s′ : List ℕ} {at′ : ℕ} (d : Laid s at b s′ at′) {v : ℕ} (small : v < 128 ^ planGroups)
-    (h : at + length (b ++ encode planGroups v) ≤ length s) where
-  abbrev Written : NumberWritten → List ℕ → Type 0
-  Written r s″ = (r ≡ writeAnswer planGroups s′ at′ v) × (s″ ≡ written planGroups s′ at′ v)
-
-  laid-room :
-      (Next (at′ + length (encode planGroups v)) ≡ writeAnswer planGroups s′ at′ v)
-      × (sets s′ at′ (encode planGroups v) ≡ written planGroups s′ at′ v)
-  laid-room =
-      room planGroups s′ at′ v (encode planGroups v) refl small
-      (omega (arith, ap length (d .memory), length-sets s at b, d .offset, length-append b (encode planGroups v)))
-
-  pub laid-never : {r : NumberWritten} {s″ : List ℕ} → Written r s″ → OneOf (1 ∷ 2 ∷ []) (tagOf NumberWritten.the-type r) → ⊥
-  laid-never {r} w k = not-other r _ (w .0 ∙ sym (laid-room .0)) k
+module _ {s : List ℕ} {at : ℕ} {b s′ : List ℕ} {at′ : ℕ} (d : Laid s at b s′ at′) (v : ℕ) where
+  pub number-room : at + length (b ++ encode planGroups v) ≤ length s → at′ + length (encode planGroups v) ≤ length s′
+  number-room h = omega (arith, ap length (d .memory), length-sets s at b, d .offset, length-append b (encode planGroups v))
 
   pub laid-number :
-      {r : NumberWritten} {s″ : List ℕ} {n : ℕ} → Written r s″ → r ≡ Next n → Laid s at (b ++ encode planGroups v) s″ n
-  laid-number {r} {s″} {n} w k =
-      let q : Next (at′ + length (encode planGroups v)) ≡ Next n = laid-room .0 ∙ sym (w .0) ∙ k in
-      let p : at′ + length (encode planGroups v) ≡ n = cc in
+      {s″ : List ℕ} {n : ℕ} → (n ≡ at′ + length (encode planGroups v)) × (s″ ≡ sets s′ at′ (encode planGroups v)) →
+      Laid s at (b ++ encode planGroups v) s″ n
+  laid-number w =
       record {
         memory =
-            w .1 ∙ sym (laid-room .1)
+            w .1
             ∙ ap (λ (l : List ℕ). sets l at′ (encode planGroups v)) (d .memory)
             ∙ ap (λ (k : ℕ). sets (sets s at b) k (encode planGroups v)) (d .offset)
             ∙ sym (sets-append s at b (encode planGroups v));
-        offset = omega (arith, d .offset, length-append b (encode planGroups v));
+        offset = omega (arith, w .0, d .offset, length-append b (encode planGroups v));
       }
 
 -- an edge's four numbers
