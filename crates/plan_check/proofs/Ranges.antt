@@ -1,15 +1,18 @@
--- Laws of the numbers that have a range: V, M, a head, a cost and a class have the rows that documents 01 and 02 name.
-use Prim.Native.Nat.{ℕ, zero, suc, _+_}
+-- Laws of the numbers that have a range: V, M, a cost and a class have the rows that documents 01 and 02 name.
+use Prim.Native.Nat.{ℕ, zero, suc, _+_, _*_, _≤_, _<_}
+use native.Mathlib.Omega.{arith}
 use mathlib.Core.Path.{_≡_, refl}
+use mathlib.Core.Bool.{Bool, true, false, cond}
 use mathlib.Core.List.{List}
-use lib.Dec.{leb·suc-zero, leb·suc-suc, eqb·suc-zero}
+use lib.Dec.{ltb, eqb, leb·suc-zero, leb·suc-suc, eqb·suc-zero}
+use borrow.Author.Tests.{lt-ltb, le-ltb, eqb-true, eqb-false}
 use Rattle.leb128.specs.declared.NumberRead.{NumberRead}
 use Rattle.leb128.specs.declared.NumberRead.the-variants.{Value, Refused}
 use Rattle.leb128.specs.Number.{read, planGroups}
 use Rattle.graph.specs.declared.Taken.the-variants.{Number}
 use Rattle.graph.specs.declared.Taken.the-variants as taken
 use Rattle.graph.specs.Limits.{maxVertices, maxEdges, maxCost, maxClass}
-use Rattle.graph.specs.Rows.{Row, through, throughAll, takeNumber, vertexCountRows, edgeCountRows, headRows, costRows, classRows}
+use Rattle.graph.specs.Rows.{Row, through, throughAll, takeNumber, vertexCountRows, edgeCountRows, costRows, classRows}
 use Rattle.plan_check.specs.Range.{rangeRows}
 
 module _ (s : List ℕ) (at : ℕ) where
@@ -45,6 +48,19 @@ module _ (s : List ℕ) (at : ℕ) where
   unfolding rangeRows classRows through
   class-range = alike (rangeRows (maxClass + 1) 15 0 15) classRows (λ x next. rw (leb·suc-zero x))
 
-  pub head-range : (v l : ℕ) → takeNumber s at (rangeRows v 4 l 6) ≡ takeNumber s at (headRows v l)
-  unfolding rangeRows headRows
-  head-range v l = refl
+-- ---- a head below the least that counts, which is 0 after a new tail: compared as one number
+
+module _ (d h l : ℕ) (small : l < 4294967296) where
+  below-by : (t : Bool) → eqb d 0 ≡ t → 4294967296 * d + h < l → ltb h (cond t l 0) ≡ true
+  below-by true e k = lt-ltb h l (omega (arith, eqb-true d 0 e))
+  below-by false e k = let p : d ≡ 0 → ⊥ = eqb-false d 0 e in absurd (omega arith)
+
+  pub below : 4294967296 * d + h < l → ltb h (cond (eqb d 0) l 0) ≡ true
+  below k = below-by (eqb d 0) refl k
+
+  from-by : (t : Bool) → eqb d 0 ≡ t → l ≤ 4294967296 * d + h → ltb h (cond t l 0) ≡ false
+  from-by true e k = le-ltb h l (omega (arith, eqb-true d 0 e))
+  from-by false e k = le-ltb h 0 (omega arith)
+
+  pub from : l ≤ 4294967296 * d + h → ltb h (cond (eqb d 0) l 0) ≡ false
+  from k = from-by (eqb d 0) refl k

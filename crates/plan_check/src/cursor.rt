@@ -1,20 +1,11 @@
 // The cursor over a plan's edges, which gives the next edge or the refusal.
 ghost use mathlib.Core.Path.{_≡_};
-ghost use mathlib.Core.Bool.{cond};
-ghost use lib.Dec.{eqb};
 ghost use Rattle.graph.specs.Plan.{firstAt, nextEdge};
 use crate::number;
 use graph::Cursor;
 use graph::Edge;
 use graph::EdgeRead;
 use graph::Taken;
-
-// The least head that may follow: the tail is the same where the difference is 0.
-fn least_after(least: u32, difference: u32) -> u32
-    ensures { λ r. ⌜ r ≡ cond (eqb difference 0) least 0 ⌝ }
-{
-    if difference == 0 { least } else { 0 }
-}
 
 // Before the first edge.
 pub fn first(at: usize) -> Cursor
@@ -37,8 +28,7 @@ pub fn next_edge(cursor: Cursor, bytes: &[u8], vertices: u32) -> EdgeRead
     match number::take_tail(bytes, cursor.at, vertices, before) {
         Taken::Refused(n, p) => EdgeRead::Refused(n, p),
         Taken::Number(difference, head_at) => {
-            let floor = least_after(least, difference);
-            match number::take_head(bytes, head_at, vertices, floor) {
+            match number::take_head(bytes, head_at, vertices, difference, least) {
                 Taken::Refused(n, p) => EdgeRead::Refused(n, p),
                 Taken::Number(head, cost_at) => match number::take_cost(bytes, cost_at) {
                     Taken::Refused(n, p) => EdgeRead::Refused(n, p),

@@ -1,5 +1,7 @@
 // A plan number through all its rows: read, or refused with the offset of its first byte.
 ghost use mathlib.Core.Path.{_≡_};
+ghost use mathlib.Core.Bool.{cond};
+ghost use lib.Dec.{eqb};
 ghost use Rattle.graph.specs.Rows.{takeNumber, vertexCountRows, edgeCountRows, tailRows, headRows, costRows, classRows};
 ghost use Rattle.plan_check.specs.Range.{rangeRows};
 use graph::Taken;
@@ -50,11 +52,22 @@ pub fn take_tail(bytes: &[u8], at: usize, vertices: u32, tail: u32) -> Taken
     Taken::Number(difference, next)
 }
 
-// A head: refusals 1, 4 and 6.
-pub fn take_head(bytes: &[u8], at: usize, vertices: u32, least: u32) -> Taken
-    ensures { λ r. ⌜ r ≡ takeNumber (now (bytes .entry)) at (headRows vertices least) ⌝ }
+// A head: refusals 1, 4 and 6. The least head counts where the difference of the tails is 0; difference and
+// head are compared with it as one number.
+pub fn take_head(bytes: &[u8], at: usize, vertices: u32, difference: u32, least: u32) -> Taken
+    ensures { λ r. ⌜ r ≡ takeNumber (now (bytes .entry)) at (headRows vertices (cond (eqb difference 0) least 0)) ⌝ }
 {
-    take_in(bytes, at, vertices, 4, least, 6)
+    let NumberRead::Value(head, next) = leb128_reader::read_plan_number(bytes, at) else {
+        return Taken::Refused(1, at);
+    };
+    if vertices <= head {
+        return Taken::Refused(4, at);
+    }
+    let found = 4294967296 * (difference as u64) + (head as u64);
+    if found < least as u64 {
+        return Taken::Refused(6, at);
+    }
+    Taken::Number(head, next)
 }
 
 // A cost: refusals 1 and 5.

@@ -1,5 +1,5 @@
 -- `next_edge` meets its contract: its four numbers one after the other.
-use mathlib.Core.Path.{sym, _∙_}
+use mathlib.Core.Path.{refl, sym, _∙_}
 use native.Mathlib.Omega.{arith}
 use Rattle.plan_check.proofs.NextEdge.{taken-tail, taken-head, tail-refused, head-refused, cost-refused, class-refused, edge-taken}
 use borrow.Author.Needs.{needs}
@@ -14,9 +14,6 @@ enum-known-n c = search needs
 
 enum-known-difference : tie.Need-enum-known-difference
 enum-known-difference c = search needs
-
-least-after-requires : tie.Need-least-after-requires
-least-after-requires c κs = search needs
 
 take-head-requires : tie.Need-take-head-requires
 take-head-requires c κs = search needs
@@ -49,42 +46,42 @@ add-tail : tie.Need-add-tail
 add-tail c =
     let m = c .before .before .before .before .before in
     let k = m .before .before .before .before in
-    let j = k .before .before .before .before .before in
+    let j = k .before .before .before .before in
     omega (arith, taken-tail _ _ _ _ _ _ (sym (j .before .before .take-tail .ensures) ∙ j .difference .given .1))
 
 add-least : tie.Need-add-least
 add-least c =
     let m = c .before .before .before .before .before in
     let k = m .before .before .before .before in
-    omega (arith, k .before .before .before .before .before, taken-head _ _ _ _ _ _ (sym (k .before .before .take-head .ensures) ∙ k .head .given .1))
+    omega (arith, k .before .before .before .before, taken-head _ _ _ _ _ _ (sym (k .before .before .take-head .ensures) ∙ k .head .given .1))
 
 returns : tie.Need-returns
 returns c = tail-refused _ _ _ _ _ (sym (c .before .before .before .take-tail .ensures) ∙ c .before .n .given .1)
 
 returns-2 : tie.Need-returns-2
 returns-2 c =
-    let j = c .before .before .before .before .before .before in
-    head-refused _ _ _ _ _ _ _ _ (sym (j .before .before .take-tail .ensures) ∙ j .difference .given .1) (c .before .before .before .before .least-after .ensures) (sym (c .before .before .before .take-head .ensures) ∙ c .before .n2 .given .1)
+    let j = c .before .before .before .before .before in
+    head-refused _ _ _ _ _ _ _ _ (sym (j .before .before .take-tail .ensures) ∙ j .difference .given .1) refl (sym (c .before .before .before .take-head .ensures) ∙ c .before .n2 .given .1)
 
 returns-3 : tie.Need-returns-3
 returns-3 c =
     let k = c .before .before .before .before .before in
-    let j = k .before .before .before .before .before in
-    cost-refused _ _ _ _ _ _ _ _ _ _ (sym (j .before .before .take-tail .ensures) ∙ j .difference .given .1) (k .before .before .before .least-after .ensures) (sym (k .before .before .take-head .ensures) ∙ k .head .given .1) (sym (c .before .before .before .take-cost .ensures) ∙ c .before .n3 .given .1)
+    let j = k .before .before .before .before in
+    cost-refused _ _ _ _ _ _ _ _ _ _ (sym (j .before .before .take-tail .ensures) ∙ j .difference .given .1) refl (sym (k .before .before .take-head .ensures) ∙ k .head .given .1) (sym (c .before .before .before .take-cost .ensures) ∙ c .before .n3 .given .1)
 
 returns-4 : tie.Need-returns-4
 returns-4 c =
     let m = c .before .before .before .before .before in
     let k = m .before .before .before .before in
-    let j = k .before .before .before .before .before in
-    class-refused _ _ _ _ _ _ _ _ _ _ _ _ (sym (j .before .before .take-tail .ensures) ∙ j .difference .given .1) (k .before .before .before .least-after .ensures) (sym (k .before .before .take-head .ensures) ∙ k .head .given .1) (sym (m .before .before .take-cost .ensures) ∙ m .cost .given .1) (sym (c .before .before .before .take-class .ensures) ∙ c .before .n4 .given .1)
+    let j = k .before .before .before .before in
+    class-refused _ _ _ _ _ _ _ _ _ _ _ _ (sym (j .before .before .take-tail .ensures) ∙ j .difference .given .1) refl (sym (k .before .before .take-head .ensures) ∙ k .head .given .1) (sym (m .before .before .take-cost .ensures) ∙ m .cost .given .1) (sym (c .before .before .before .take-class .ensures) ∙ c .before .n4 .given .1)
 
 returns-5 : tie.Need-returns-5
 returns-5 c =
     let m = c .before .before .before .before .before in
     let k = m .before .before .before .before in
-    let j = k .before .before .before .before .before in
-    edge-taken _ _ _ _ _ _ _ _ _ _ _ _ (sym (j .before .before .take-tail .ensures) ∙ j .difference .given .1) (k .before .before .before .least-after .ensures) (sym (k .before .before .take-head .ensures) ∙ k .head .given .1) (sym (m .before .before .take-cost .ensures) ∙ m .cost .given .1) (sym (c .before .before .before .take-class .ensures) ∙ c .before .class .given .1)
+    let j = k .before .before .before .before in
+    edge-taken _ _ _ _ _ _ _ _ _ _ _ _ (sym (j .before .before .take-tail .ensures) ∙ j .difference .given .1) refl (sym (k .before .before .take-head .ensures) ∙ k .head .given .1) (sym (m .before .before .take-cost .ensures) ∙ m .cost .given .1) (sym (c .before .before .before .take-class .ensures) ∙ c .before .class .given .1)
 
 pub next-edge-spec : {M : Type 1} → statement M
 next-edge-spec =
@@ -93,7 +90,6 @@ next-edge-spec =
     take-tail-requires
     enum-known-n
     enum-known-difference
-    least-after-requires
     take-head-requires
     enum-known-n-2
     enum-known-head
