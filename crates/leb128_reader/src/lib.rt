@@ -8,7 +8,11 @@ use leb128::NumberRead;
 fn byte_at(bytes: &[u8], at: usize) -> u32
     ensures { λ r. ⌜ r ≡ getD (now (bytes .entry)) at 0 ⌝ }
 {
-    if at < bytes.len() { bytes[at] as u32 } else { 0 }
+    if at < bytes.len() {
+        bytes[at] as u32
+    } else {
+        0
+    }
 }
 
 // The plan number at an offset. After a group that another follows, 0 is refused: it is the last group of
