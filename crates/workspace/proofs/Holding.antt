@@ -1,4 +1,4 @@
--- Laws of `Holds`: what work memory holds is read back, and a change of the vertices keeps the rest.
+-- Laws of `Holds`: what memory holds is read back, and a change of the vertices keeps the rest.
 use mathlib.Core.Path.{_≡_, refl, sym, ap, _∙_}
 use mathlib.Core.List.{List, [], _∷_, _++_, map, append-assoc}
 use Prim.Native.Nat.{ℕ, zero, suc, _+_, _*_, _-_, _≤_, _<_}
@@ -12,7 +12,7 @@ use Rattle.graph.specs.Lists.{headOf, costOf, classOf, over}
 use Rattle.graph.specs.OneForm.{EdgeWithin}
 use Rattle.graph.proofs.Plan.{whole}
 use Rattle.search.specs.declared.Vertex.{Vertex}
-use Rattle.search.specs.Outcome.{edgesBelow, firstEdges, vertexWords, workWords}
+use Rattle.search.specs.Outcome.{edgesBelow, firstEdges, vertexWords, workWords, wideWords}
 use Rattle.workspace.specs.declared.Size.{Size}
 use Rattle.workspace.specs.Layout.{base, Words, mem, WorkRoom, Room, verticesOf, written, firstOf, edgeAt, edgesRun, edgesAt, edgesUnder, graphOf, graphWords, Loaded, Ready, Becomes}
 use Rattle.workspace.specs.Holds.{Rising, then, Holds}
@@ -167,7 +167,7 @@ work-words v es st = sym (graph-columns v es (vertexWords st))
 
 -- a graph over the words of memory
 abbrev pub withGraph : Size → List Edge → Words → Words
-withGraph z es old = mem (over (graphWords (z .vertices) es) (old .work))
+withGraph z es old = mem (over (graphWords (z .vertices) es) (old .work)) (old .wide)
 
 module _ (z : Size) (es : List Edge) (old : Words) (le : length es ≡ z .edges) where
   graph-length : length (graphWords (z .vertices) es) ≡ base z
@@ -193,15 +193,20 @@ module _ (z : Size) (es : List Edge) (old : Words) (le : length es ≡ z .edges)
   unfolding over
   graph-room room =
       let g : List ℕ = graphWords (z .vertices) es in
-      record { work = omega (arith, length-append g (drop (length g) (old .work)), length-drop (length g) (old .work), graph-length, room .work) }
+      record {
+        work = omega (arith, length-append g (drop (length g) (old .work)), length-drop (length g) (old .work), graph-length, room .work);
+        wide = room .wide;
+      }
 
 -- a graph loaded over the words, and vertices laid
 pub holds-laid :
     (z : Size) (es : List Edge) (st : List Vertex) (old u m : Words) → Room z old → length es ≡ z .edges → Rising (z .vertices) 0 es →
-    length st ≡ z .vertices → u .work ≡ over (graphWords (z .vertices) es) (old .work) → Becomes z st u m → Holds z es st old m
+    length st ≡ z .vertices → u ≡ withGraph z es old → Becomes z st u m → Holds z es st old m
+unfolding written
 holds-laid z es st old u m room le rise lv f g =
     record {
-      words = ap (λ (x : Words). x .work) (g .words ∙ ap (written z st) (ap mem f)) ∙ work-written z es old le st;
+      words = ap (λ (x : Words). x .work) (g .words ∙ ap (written z st) f) ∙ work-written z es old le st;
+      numbers = ap (λ (x : Words). x .wide) (g .words ∙ ap (written z st) f);
       room = room;
       vertices = lv;
       edges = le;
@@ -213,7 +218,8 @@ module _ (z : Size) (es : List Edge) (st : List Vertex) (old m : Words) (h : Hol
   loaded = withGraph z es old
 
   as-written : m ≡ written z st loaded
-  as-written = ap mem (h .words ∙ sym (work-written z es old (h .edges) st))
+  unfolding written
+  as-written = ap (λ (w : List ℕ). mem w (m .wide)) (h .words ∙ sym (work-written z es old (h .edges) st)) ∙ ap (mem _) (h .numbers)
 
   loaded-room : Room z loaded
   loaded-room = graph-room z es old (h .edges) (h .room)

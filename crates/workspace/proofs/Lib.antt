@@ -1,4 +1,4 @@
-pub mod Four
+pub mod Two
 pub mod Written
 pub mod Firsts
 pub mod Holding

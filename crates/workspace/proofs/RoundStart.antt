@@ -7,23 +7,12 @@ use native.Mathlib.Omega.{arith}
 use lib.ListN.{length, getD, set, take, drop, drop-of-length-le, replicate, length-replicate}
 use lib.Seq.{take-suc-set, drop-set-lt, drop-cons, take-all, append-snoc}
 use Rattle.search.specs.declared.Vertex.{Vertex}
-use Rattle.search.specs.Job.{fresh, origin, at, atFirst, unreached}
+use Rattle.search.specs.Job.{fresh, origin, at, atFirst}
 use Rattle.search.specs.Rounds.{reopened}
 use Rattle.workspace.specs.declared.Size.{Size}
-use Rattle.workspace.specs.Layout.{Words, Room, verticesOf, written, withVertex, Fits, Ready, Becomes}
+use Rattle.workspace.specs.Layout.{Words, Room, verticesOf, written, withVertex, Ready, Becomes}
 use Rattle.workspace.proofs.Written.{written-set, written-more, length-verticesOf, length-stored, unchanged, then-vertices, then-kept}
 
-pub fits-fresh : Fits fresh
-unfolding fresh unreached
-fits-fresh = record { g = omega arith; v = omega arith }
-
-pub fits-origin : Fits origin
-unfolding origin unreached
-fits-origin = record { g = omega arith; v = omega arith }
-
-pub fits-reopened : (x : Vertex) → Fits x → Fits (reopened x)
-unfolding reopened
-fits-reopened x f = record { g = f .g; v = f .v }
 
 -- ---- the loop that makes the vertices fresh
 

@@ -6,24 +6,24 @@ use native.Mathlib.Nat.{add-assoc, zero-add, suc-add}
 use native.Mathlib.Omega.{arith}
 use borrow.Author.Tests.{lt-ltb, le-ltb}
 use lib.ListN.{length, getD, set, drop, take, length-drop, length-append, length-set, take-append-drop, List·getD-append, List·getD-eq-default, replicate}
-use lib.Seq.{getD-take, take-at, drop-at, length-take-le}
+use lib.Seq.{getD-drop, getD-take, take-at, drop-at, length-take-le}
 use Rattle.graph.specs.Lists.{over}
 use Rattle.search.specs.declared.Vertex.{Vertex}
 use Rattle.search.specs.Job.{at, fresh}
-use Rattle.search.specs.Outcome.{vertexWords}
+use Rattle.search.specs.Outcome.{markWord, vertexWords, wideWords}
 use Rattle.search.proofs.Tools.{le-cases}
 use Rattle.workspace.specs.declared.Size.{Size}
-use Rattle.workspace.specs.Layout.{base, Words, mem, Room, vertexAt, verticesOf, written, wordsWith, withVertex, predOf, firstOf, edgeAt, edgesRun, edgesAt, edgesUnder, graphOf, Loaded, Ready, Becomes}
-use Rattle.workspace.proofs.Four.{length-vertices, vertexAt-drop, at-vertices, over-none, length-over, vertices-over, over-over, over-set, over-more}
+use Rattle.workspace.specs.Layout.{base, Words, mem, Room, vertexAt, verticesOf, written, withTwo, withVertex, predOf, firstOf, edgeAt, edgesRun, edgesAt, edgesUnder, graphOf, Loaded, Ready, Becomes}
+use Rattle.workspace.proofs.Two.{length-vertices, at-vertices, over-none, length-over, vertices-over, over-over, over-set, over-more}
 
 module _ (z : Size) (m : Words) where
   pub length-verticesOf : length (verticesOf z m) ≡ z .vertices
   unfolding verticesOf
-  length-verticesOf = length-vertices (z .vertices) (drop (base z) (m .work))
+  length-verticesOf = length-vertices (z .vertices) (drop (base z) (m .work)) (m .wide)
 
-  pub at-verticesOf : (p : ℕ) → p < z .vertices → at (verticesOf z m) p ≡ vertexAt (m .work) (base z + 4 * p)
-  unfolding verticesOf
-  at-verticesOf p h = at-vertices (z .vertices) (drop (base z) (m .work)) p h ∙ vertexAt-drop (base z) (m .work) (4 * p)
+  pub at-verticesOf : (p : ℕ) → p < z .vertices → at (verticesOf z m) p ≡ vertexAt (m .work) (base z + 2 * p) (m .wide) (2 * p)
+  unfolding verticesOf vertexAt
+  at-verticesOf p h = at-vertices (z .vertices) (drop (base z) (m .work)) (m .wide) p h ∙ simp (getD-drop, ← add-assoc)
 
   -- the one word of a predecessor is that of its vertex
   pub pred-is : (x : ℕ) → predOf z (m .work) x ≡ at (verticesOf z m) x .pred
@@ -41,8 +41,12 @@ module _ (z : Size) (m : Words) where
     pub length-written : length (written z st m .work) ≡ length (m .work)
     unfolding written
     length-written =
-        let l : 4 * length st ≤ length (drop (base z) (m .work)) = simp (length-drop, e) (omega (arith, r .work)) in
-        omega (arith, length-append (take (base z) (m .work)) (over (vertexWords st) (drop (base z) (m .work))), length-over st (drop (base z) (m .work)) l, length-drop (base z) (m .work), low)
+        let l : 2 * length st ≤ length (drop (base z) (m .work)) = simp (length-drop, e) (omega (arith, r .work)) in
+        omega (arith, length-append (take (base z) (m .work)) (over (vertexWords st) (drop (base z) (m .work))), length-over (λ (x : Vertex). x .pred) markWord st (drop (base z) (m .work)) l, length-drop (base z) (m .work), low)
+
+    pub wide-written : length (written z st m .wide) ≡ length (m .wide)
+    unfolding written
+    wide-written = length-over (λ (x : Vertex). x .g) (λ (x : Vertex). x .v) st (m .wide) (omega (arith, r .wide))
 
     pub verticesOf-written : verticesOf z (written z st m) ≡ st
     unfolding verticesOf written
@@ -50,7 +54,13 @@ module _ (z : Size) (m : Words) where
 
     pub written-written : (su : List Vertex) → length su ≡ length st → written z su (written z st m) ≡ written z su m
     unfolding written
-    written-written su f = rw (drop-at _ _ (base z) low, take-at _ _ (base z) low, over-over su st _ f)
+    written-written su f =
+        rw (
+          drop-at _ _ (base z) low,
+          take-at _ _ (base z) low,
+          over-over (λ (x : Vertex). x .pred) markWord su st _ f,
+          over-over (λ (x : Vertex). x .g) (λ (x : Vertex). x .v) su st _ f,
+        )
 
     pub getD-written : (j : ℕ) → j < base z → getD (written z st m .work) j 0 ≡ getD (m .work) j 0
     unfolding written
@@ -89,7 +99,8 @@ module _ (z : Size) (m : Words) where
 module _ (z : Size) (m : Words) (room : Room z m) (r : Loaded z (m .work)) (st : List Vertex) (e : length st ≡ z .vertices) where
   pub ready-loaded : Ready z (written z st m)
   ready-loaded =
-      let s : Room z (written z st m) = record { work = rw (length-written z m room st e) (room .work) } in
+      let s : Room z (written z st m)
+      = record { work = rw (length-written z m room st e) (room .work); wide = rw (wide-written z m room st e) (room .wide) } in
       record {
         room = s;
         graph =
@@ -129,6 +140,9 @@ module _ (z : Size) (m₀ m : Words) (r : Ready z m₀) (k : Becomes z (vertices
   pub length-kept : length (m .work) ≡ length (m₀ .work)
   length-kept = ap length work-is ∙ length-written z m₀ (r .room) (verticesOf z m) (length-verticesOf z m)
 
+  pub wide-kept : length (m .wide) ≡ length (m₀ .wide)
+  wide-kept = ap (λ (x : Words). length (x .wide)) (k .words) ∙ wide-written z m₀ (r .room) (verticesOf z m) (length-verticesOf z m)
+
   pub edge-kept : (t j : ℕ) → j < z .edges → edgeAt z (m .work) t j ≡ edgeAt z (m₀ .work) t j
   edge-kept t j h =
       ap (λ (l : List ℕ). edgeAt z l t j) work-is ∙ edge-written z m₀ (r .room) (verticesOf z m) (length-verticesOf z m) t j h
@@ -152,38 +166,48 @@ pub set-after : (a r : List ℕ) (i v : ℕ) → set (a ++ r) (length a + i) v �
 set-after [] r i v = rw zero-add
 set-after (x ∷ a) r i v = rw (suc-add, set-after a r i v)
 
-wordsWith-after : (a r : List ℕ) (o : ℕ) (x : Vertex) → wordsWith (a ++ r) (length a + o) x ≡ a ++ wordsWith r o x
-unfolding wordsWith
-wordsWith-after a r o x = simp (add-assoc, set-after)
+two-after : (a r : List ℕ) (o x y : ℕ) → withTwo (a ++ r) (length a + o) x y ≡ a ++ withTwo r o x y
+unfolding withTwo
+two-after a r o x y = simp (add-assoc, set-after)
 
 module _ (z : Size) (m : Words) (r : Room z m) where
   in-vertices :
-      (l : List ℕ) (o : ℕ) (x : Vertex) → wordsWith (take (base z) (m .work) ++ l) (base z + o) x ≡ take (base z) (m .work) ++ wordsWith l o x
-  in-vertices l o x =
-      ap (λ n. wordsWith (take (base z) (m .work) ++ l) (n + o) x) (sym (length-take-le (base z) (m .work) (omega (arith, r .work))))
-      ∙ wordsWith-after (take (base z) (m .work)) l o x
+      (l : List ℕ) (o x y : ℕ) → withTwo (take (base z) (m .work) ++ l) (base z + o) x y ≡ take (base z) (m .work) ++ withTwo l o x y
+  in-vertices l o x y =
+      ap (λ n. withTwo (take (base z) (m .work) ++ l) (n + o) x y) (sym (length-take-le (base z) (m .work) (omega (arith, r .work))))
+      ∙ two-after (take (base z) (m .work)) l o x y
 
-  -- vertices changed among those of work memory
+  -- vertices changed among those of memory
   laid-by :
-      (a b : List ℕ) (p : ℕ) (x : Vertex) → wordsWith a (4 * p) x ≡ b →
-      withVertex z (mem (take (base z) (m .work) ++ a)) p x ≡ mem (take (base z) (m .work) ++ b)
+      (a b u v : List ℕ) (p : ℕ) (x : Vertex) → withTwo a (2 * p) (x .pred) (markWord x) ≡ b → withTwo u (2 * p) (x .g) (x .v) ≡ v →
+      withVertex z (mem (take (base z) (m .work) ++ a) u) p x ≡ mem (take (base z) (m .work) ++ b) v
   unfolding withVertex
-  laid-by a b p x e = ap mem (in-vertices a (4 * p) x ∙ ap (λ l. take (base z) (m .work) ++ l) e)
+  laid-by a b u v p x e f = rw (in-vertices a (2 * p) (x .pred) (markWord x), e, f)
 
   pub written-set : (st : List Vertex) (p : ℕ) (x : Vertex) → p < length st → withVertex z (written z st m) p x ≡ written z (set st p x) m
   unfolding written
-  written-set st p x h = laid-by _ _ p x (sym (over-set st (drop (base z) (m .work)) p x h))
+  written-set st p x h =
+      laid-by _ _ _ _ p x
+      (sym (over-set (λ (q : Vertex). q .pred) markWord st (drop (base z) (m .work)) p x h))
+      (sym (over-set (λ (q : Vertex). q .g) (λ (q : Vertex). q .v) st (m .wide) p x h))
 
   pub written-more :
       (p : ℕ) (x : Vertex) → p < z .vertices → withVertex z (written z (replicate p x) m) p x ≡ written z (replicate (suc p) x) m
   unfolding written
   written-more p x h =
-      let l : 4 * suc p ≤ length (drop (base z) (m .work)) = simp length-drop (omega (arith, r .work)) in
-      laid-by _ _ p x (over-more p x (drop (base z) (m .work)) l)
+      let l : 2 * suc p ≤ length (drop (base z) (m .work)) = simp length-drop (omega (arith, r .work)) in
+      laid-by _ _ _ _ p x
+      (over-more (λ (q : Vertex). q .pred) markWord p x (drop (base z) (m .work)) l)
+      (over-more (λ (q : Vertex). q .g) (λ (q : Vertex). q .v) p x (m .wide) (omega (arith, r .wide)))
 
   pub written-none : m ≡ written z [] m
   unfolding written
-  written-none = ap mem (rw over-none (sym (take-append-drop (base z) (m .work))))
+  written-none =
+      rw (
+        over-none (λ (q : Vertex). q .pred) markWord (drop (base z) (m .work)),
+        over-none (λ (q : Vertex). q .g) (λ (q : Vertex). q .v) (m .wide),
+        take-append-drop (base z) (m .work),
+      )
 
 module _ (z : Size) (m : Words) (p : ℕ) (x : Vertex) where
   pub length-stored : length (set (verticesOf z m) p x) ≡ z .vertices

@@ -1,4 +1,4 @@
--- The layout of work memory (V+1 first edge numbers, M heads, M costs, M classes, four words for each vertex): for contracts inside the planner call, nothing that a reader must believe.
+-- The layout of work memory (V+1 first edge numbers, M heads, M costs, M classes, two words for each vertex) and of the wide one (two numbers for each vertex): for contracts inside the planner call, nothing that a reader must believe.
 use Prim.Native.Nat.{ℕ, zero, suc, _+_, _-_, _*_, _/_, _%_, _≤_, _<_}
 use mathlib.Core.Path.{_≡_}
 use mathlib.Core.Bool.{Bool, cond}
@@ -11,29 +11,30 @@ use Rattle.graph.specs.Limits.{maxClass}
 use Rattle.graph.specs.Lists.{headOf, costOf, classOf, over}
 use Rattle.search.specs.declared.Vertex.{Vertex}
 use Rattle.search.specs.Job.{noPred}
-use Rattle.search.specs.Outcome.{firstEdges, markWord, vertexWords}
-use Rattle.search.specs.Bounds.{maxG}
+use Rattle.search.specs.Outcome.{firstEdges, markWord, vertexWords, wideWords}
 use Rattle.workspace.specs.declared.Size.{Size}
 
--- the first word of the vertices
+-- the first word of the vertices in work memory
 unfoldable pub base : Size → ℕ
 base z = z .vertices + 1 + 3 * z .edges
 
--- lent memory in which vertices lie: work memory alone
+-- lent memory in which vertices lie: work memory and the wide one
 pub record Words : Type 0 where
   pub work : List ℕ
+  pub wide : List ℕ
 
--- memory of these words
-abbrev pub mem : List ℕ → Words
-mem w = record { work = w }
+-- memory of these words and numbers
+abbrev pub mem : List ℕ → List ℕ → Words
+mem w u = record { work = w; wide = u }
 
 -- room for the graph and the vertices in work memory
 abbrev pub WorkRoom : Size → List ℕ → Type 0
-WorkRoom z w = base z + 4 * z .vertices ≤ length w
+WorkRoom z w = base z + 2 * z .vertices ≤ length w
 
 -- room in each part of memory
 pub record Room (z : Size) (m : Words) : Type 0 where
   pub work : WorkRoom z (m .work)
+  pub wide : 2 * z .vertices ≤ length (m .wide)
 
 -- ---- the vertices
 
@@ -41,43 +42,51 @@ pub record Room (z : Size) (m : Words) : Type 0 where
 abbrev pub hasMark : ℕ → ℕ → Bool
 hasMark k m = eqb (m / k % 2) 1
 
--- the vertex whose words start at o
-unfoldable pub vertexAt : List ℕ → ℕ → Vertex
-vertexAt w o =
+-- the vertex whose words start at o, and whose numbers start at i
+unfoldable pub vertexAt : List ℕ → ℕ → List ℕ → ℕ → Vertex
+vertexAt w o u i =
     record {
-      g = getD w o 0;
-      v = getD w (o + 1) 0;
-      pred = getD w (o + 2) 0;
-      inad = hasMark 1 (getD w (o + 3) 0);
-      anchor = hasMark 2 (getD w (o + 3) 0);
-      opened = hasMark 4 (getD w (o + 3) 0);
-      incons = hasMark 8 (getD w (o + 3) 0);
+      g = getD u i 0;
+      v = getD u (i + 1) 0;
+      pred = getD w o 0;
+      inad = hasMark 1 (getD w (o + 1) 0);
+      anchor = hasMark 2 (getD w (o + 1) 0);
+      opened = hasMark 4 (getD w (o + 1) 0);
+      incons = hasMark 8 (getD w (o + 1) 0);
     }
 
--- n vertices from the front of the words
-unfoldable pub verticesIn : ℕ → List ℕ → List Vertex
-verticesIn zero w = []
-verticesIn (suc n) w = vertexAt w 0 ∷ verticesIn n (drop 4 w)
+-- n vertices from the front of the words and the numbers
+unfoldable pub verticesIn : ℕ → List ℕ → List ℕ → List Vertex
+verticesIn zero w u = []
+verticesIn (suc n) w u = vertexAt w 0 u 0 ∷ verticesIn n (drop 2 w) (drop 2 u)
 
 -- the vertices in memory
 unfoldable pub verticesOf : Size → Words → List Vertex
-verticesOf z m = verticesIn (z .vertices) (drop (base z) (m .work))
+verticesOf z m = verticesIn (z .vertices) (drop (base z) (m .work)) (m .wide)
 
 -- memory with these vertices, the rest unchanged
 unfoldable pub written : Size → List Vertex → Words → Words
-written z st m = record { work = take (base z) (m .work) ++ over (vertexWords st) (drop (base z) (m .work)) }
+written z st m =
+    record {
+      work = take (base z) (m .work) ++ over (vertexWords st) (drop (base z) (m .work));
+      wide = over (wideWords st) (m .wide);
+    }
 
--- the words with a vertex stored from o on
-unfoldable pub wordsWith : List ℕ → ℕ → Vertex → List ℕ
-wordsWith w o x = set (set (set (set w o (x .g)) (o + 1) (x .v)) (o + 2) (x .pred)) (o + 3) (markWord x)
+-- a list with a and b from o on
+unfoldable pub withTwo : List ℕ → ℕ → ℕ → ℕ → List ℕ
+withTwo l o a b = set (set l o a) (o + 1) b
 
 -- memory with vertex p stored
 unfoldable pub withVertex : Size → Words → ℕ → Vertex → Words
-withVertex z m p x = record { work = wordsWith (m .work) (base z + 4 * p) x }
+withVertex z m p x =
+    record {
+      work = withTwo (m .work) (base z + 2 * p) (x .pred) (markWord x);
+      wide = withTwo (m .wide) (2 * p) (x .g) (x .v);
+    }
 
 -- the predecessor of x, also where x is no vertex: one word of work memory
 unfoldable pub predOf : Size → List ℕ → ℕ → ℕ
-predOf z w x = cond (ltb x (z .vertices)) (getD w (base z + 4 * x + 2) 0) noPred
+predOf z w x = cond (ltb x (z .vertices)) (getD w (base z + 2 * x) 0) noPred
 
 -- ---- the graph
 
@@ -127,10 +136,6 @@ withEdge z before j e w = edgePut z j e (sets w (before + 1) (replicate (e .tail
 
 -- ---- what contracts ask
 
--- a vertex whose costs fit into a word
-pub record Fits (x : Vertex) : Type 0 where
-  pub g : x .g ≤ maxG
-  pub v : x .v ≤ maxG
 
 -- work memory holds a graph, whatever words the vertices have
 pub record Loaded (z : Size) (w : List ℕ) : Type 0 where

@@ -1,4 +1,4 @@
-// The vertices of work memory at first, and at a round's beginning.
+// The vertices in memory at first, and at a round's beginning.
 ghost use mathlib.Core.Path.{_≡_};
 ghost use Prim.Native.Nat.{_<_};
 ghost use Rattle.search.specs.Job.{origin, at, atFirst};
@@ -41,38 +41,38 @@ fn reopened(x: Vertex) -> Vertex
     }
 }
 
-// The vertices at first, over any words.
-pub fn at_first(work: &mut [u32], z: Size, start: u32)
-    requires { ⌜ Room z (mem (now work)) × (start < z .vertices) ⌝ }
-    ensures { λ _. ⌜ Becomes z (atFirst (z .vertices) start) (mem (now (work .entry))) (mem (now (work .exit))) ⌝ }
+// The vertices at first, over any words and numbers.
+pub fn at_first(work: &mut [u32], wide: &mut [u64], z: Size, start: u32)
+    requires { ⌜ Room z (mem (now work) (now wide)) × (start < z .vertices) ⌝ }
+    ensures { λ _. ⌜ Becomes z (atFirst (z .vertices) start) (mem (now (work .entry)) (now (wide .entry))) (mem (now (work .exit)) (now (wide .exit))) ⌝ }
 {
     let vertices = z.vertices;
     let mut p: u32 = 0;
     while p < vertices {
-        words::put(work, z, p, Vertex::fresh());
+        words::put(work, wide, z, p, Vertex::fresh());
         p += 1;
     }
-    words::put(work, z, start, origin());
+    words::put(work, wide, z, start, origin());
 }
 
 // Vertex p at a round's beginning.
-fn reopen_one(work: &mut [u32], z: Size, p: u32)
-    requires { ⌜ Ready z (mem (now work)) × (p < z .vertices) ⌝ }
-    ensures { λ _. ⌜ Becomes z (set (verticesOf z (mem (now (work .entry)))) p (reopened (at (verticesOf z (mem (now (work .entry)))) p))) (mem (now (work .entry))) (mem (now (work .exit))) ⌝ }
+fn reopen_one(work: &mut [u32], wide: &mut [u64], z: Size, p: u32)
+    requires { ⌜ Ready z (mem (now work) (now wide)) × (p < z .vertices) ⌝ }
+    ensures { λ _. ⌜ Becomes z (set (verticesOf z (mem (now (work .entry)) (now (wide .entry)))) p (reopened (at (verticesOf z (mem (now (work .entry)) (now (wide .entry)))) p))) (mem (now (work .entry)) (now (wide .entry))) (mem (now (work .exit)) (now (wide .exit))) ⌝ }
 {
-    let x = vertex_words::load(work, z, p);
-    vertex_words::store(work, z, p, reopened(x));
+    let x = vertex_words::load(work, wide, z, p);
+    vertex_words::store(work, wide, z, p, reopened(x));
 }
 
 // All vertices at a round's beginning.
-pub fn reopen(work: &mut [u32], z: Size)
-    requires { ⌜ Ready z (mem (now work)) ⌝ }
-    ensures { λ _. ⌜ Becomes z (map reopened (verticesOf z (mem (now (work .entry))))) (mem (now (work .entry))) (mem (now (work .exit))) ⌝ }
+pub fn reopen(work: &mut [u32], wide: &mut [u64], z: Size)
+    requires { ⌜ Ready z (mem (now work) (now wide)) ⌝ }
+    ensures { λ _. ⌜ Becomes z (map reopened (verticesOf z (mem (now (work .entry)) (now (wide .entry))))) (mem (now (work .entry)) (now (wide .entry))) (mem (now (work .exit)) (now (wide .exit))) ⌝ }
 {
     let vertices = z.vertices;
     let mut s: u32 = 0;
     while s < vertices {
-        reopen_one(work, z, s);
+        reopen_one(work, wide, z, s);
         s += 1;
     }
 }

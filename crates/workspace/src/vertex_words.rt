@@ -1,26 +1,27 @@
-// Vertices loaded from work memory and stored in it; predecessors read alone.
+// Vertices loaded from memory and stored in it; predecessors read alone.
 ghost use mathlib.Core.Path.{_≡_};
 ghost use Prim.Native.Nat.{_<_};
 ghost use lib.ListN.{set};
 ghost use Rattle.search.specs.Job.{at};
-ghost use Rattle.workspace.specs.Layout.{mem, WorkRoom, Room, verticesOf, predOf, Fits, Ready, Becomes};
+ghost use Rattle.workspace.specs.Layout.{mem, WorkRoom, Room, verticesOf, predOf, Ready, Becomes};
 use crate::Size;
 use crate::words;
 use search::Vertex;
 
-// Vertex p, as its four words say.
-pub fn load(work: &[u32], z: Size, p: u32) -> Vertex
-    requires { ⌜ Room z (mem (now work)) × (p < z .vertices) ⌝ }
-    ensures { λ r. ⌜ (r ≡ at (verticesOf z (mem (now (work .entry)))) p) × Fits r ⌝ }
+// Vertex p, as its two words and two numbers say.
+pub fn load(work: &[u32], wide: &[u64], z: Size, p: u32) -> Vertex
+    requires { ⌜ Room z (mem (now work) (now wide)) × (p < z .vertices) ⌝ }
+    ensures { λ r. ⌜ r ≡ at (verticesOf z (mem (now (work .entry)) (now (wide .entry)))) p ⌝ }
 {
-    let o = words::base(z) + 4 * (p as usize);
-    let g = work[o];
-    let v = work[o + 1];
-    let pred = work[o + 2];
-    let marks = work[o + 3];
+    let i = 2 * (p as usize);
+    let o = words::base(z) + i;
+    let pred = work[o];
+    let marks = work[o + 1];
+    let g = wide[i];
+    let v = wide[i + 1];
     Vertex {
-        g: g as u64,
-        v: v as u64,
+        g,
+        v,
         pred,
         inad: words::has_mark(1, marks),
         anchor: words::has_mark(2, marks),
@@ -36,16 +37,15 @@ pub fn pred(work: &[u32], z: Size, x: u32) -> u32
 {
     let vertices = z.vertices;
     if x < vertices {
-        let o = words::base(z) + 4 * (x as usize);
-        return work[o + 2];
+        return work[words::base(z) + 2 * (x as usize)];
     }
     Vertex::NO_PRED
 }
 
 // Vertex p becomes x.
-pub fn store(work: &mut [u32], z: Size, p: u32, x: Vertex)
-    requires { ⌜ Ready z (mem (now work)) × (p < z .vertices) × Fits x ⌝ }
-    ensures { λ _. ⌜ Becomes z (set (verticesOf z (mem (now (work .entry)))) p x) (mem (now (work .entry))) (mem (now (work .exit))) ⌝ }
+pub fn store(work: &mut [u32], wide: &mut [u64], z: Size, p: u32, x: Vertex)
+    requires { ⌜ Ready z (mem (now work) (now wide)) × (p < z .vertices) ⌝ }
+    ensures { λ _. ⌜ Becomes z (set (verticesOf z (mem (now (work .entry)) (now (wide .entry)))) p x) (mem (now (work .entry)) (now (wide .entry))) (mem (now (work .exit)) (now (wide .exit))) ⌝ }
 {
-    words::put(work, z, p, x);
+    words::put(work, wide, z, p, x);
 }

@@ -1,8 +1,8 @@
-// The words of one vertex: marks as a sum, where they begin, and a vertex put over any words.
+// The words and numbers of one vertex: marks as a sum, where its words begin, and a vertex put over any.
 ghost use mathlib.Core.Path.{_≡_};
 ghost use mathlib.Core.Bool.{cond};
 ghost use Prim.Native.Nat.{_<_, _≤_};
-ghost use Rattle.workspace.specs.Layout.{base, hasMark, mem, Room, withVertex, Fits};
+ghost use Rattle.workspace.specs.Layout.{base, hasMark, mem, Room, withVertex};
 use crate::Size;
 use search::Vertex;
 
@@ -21,7 +21,7 @@ pub fn has_mark(k: u32, marks: u32) -> bool
     marks / k % 2 == 1
 }
 
-// The first word of the vertices.
+// The first word of the vertices in work memory.
 pub fn base(z: Size) -> usize
     ensures { λ r. ⌜ r ≡ base z ⌝ }
 {
@@ -30,17 +30,16 @@ pub fn base(z: Size) -> usize
     (vertices as usize) + 1 + 3 * (edges as usize)
 }
 
-// Stores vertex p over any words.
-pub fn put(work: &mut [u32], z: Size, p: u32, x: Vertex)
-    requires { ⌜ Room z (mem (now work)) × (p < z .vertices) × Fits x ⌝ }
-    ensures { λ _. ⌜ mem (now (work .exit)) ≡ withVertex z (mem (now (work .entry))) p x ⌝ }
+// Stores vertex p over any words and numbers.
+pub fn put(work: &mut [u32], wide: &mut [u64], z: Size, p: u32, x: Vertex)
+    requires { ⌜ Room z (mem (now work) (now wide)) × (p < z .vertices) ⌝ }
+    ensures { λ _. ⌜ mem (now (work .exit)) (now (wide .exit)) ≡ withVertex z (mem (now (work .entry)) (now (wide .entry))) p x ⌝ }
 {
-    let o = base(z) + 4 * (p as usize);
+    let i = 2 * (p as usize);
+    let o = base(z) + i;
     let marks = mark(1, x.inad) + mark(2, x.anchor) + mark(4, x.opened) + mark(8, x.incons);
-    let g = x.g;
-    let v = x.v;
-    work[o] = g as u32;
-    work[o + 1] = v as u32;
-    work[o + 2] = x.pred;
-    work[o + 3] = marks;
+    work[o] = x.pred;
+    work[o + 1] = marks;
+    wide[i] = x.g;
+    wide[i + 1] = x.v;
 }

@@ -1,39 +1,19 @@
 -- `load` meets its contract.
-use Prim.Native.Nat.{_+_, _*_}
 use mathlib.Core.Path.{sym}
-use native.Mathlib.Omega.{arith}
 use Rattle.workspace.specs.Layout.{mem, vertexAt}
 use Rattle.workspace.proofs.Written.{at-verticesOf}
 use borrow.Author.Needs.{needs}
 use Rattle.workspace.proofs.vertex_words.load.Statement.{statement}
 use Rattle.workspace.proofs.vertex_words.load.Tie as tie
 
+mul-i : tie.Need-mul-i
+mul-i c = search needs
+
 base-requires : tie.Need-base-requires
 base-requires c κs = search needs
 
-mul-o : tie.Need-mul-o
-mul-o c = search needs
-
 add-o : tie.Need-add-o
 add-o c = search needs
-
-mul-g : tie.Need-mul-g
-mul-g c = search needs
-
-shared-slice-read-g : tie.Need-shared-slice-read-g
-shared-slice-read-g c = search needs
-
-add-v : tie.Need-add-v
-add-v c = search needs
-
-mul-v : tie.Need-mul-v
-mul-v c = search needs
-
-shared-slice-read-v : tie.Need-shared-slice-read-v
-shared-slice-read-v c = search needs
-
-add-pred : tie.Need-add-pred
-add-pred c = search needs
 
 mul-pred : tie.Need-mul-pred
 mul-pred c = search needs
@@ -50,11 +30,20 @@ mul-marks c = search needs
 shared-slice-read-marks : tie.Need-shared-slice-read-marks
 shared-slice-read-marks c = search needs
 
-cast-t17 : tie.Need-cast-t17
-cast-t17 c = omega (arith, c .shared-slice-known5 .given (c .before .before .before .before .base .result + 4 * c .before .before .before .before .before .before .args .p))
+mul-g : tie.Need-mul-g
+mul-g c = search needs
 
-cast-t18 : tie.Need-cast-t18
-cast-t18 c = omega (arith, c .shared-slice-known5 .given (c .before .before .before .before .base .result + 4 * c .before .before .before .before .before .before .args .p + 1))
+shared-slice-read-g : tie.Need-shared-slice-read-g
+shared-slice-read-g c = search needs
+
+add-v : tie.Need-add-v
+add-v c = search needs
+
+mul-v : tie.Need-mul-v
+mul-v c = search needs
+
+shared-slice-read-v : tie.Need-shared-slice-read-v
+shared-slice-read-v c = search needs
 
 has-mark-requires : tie.Need-has-mark-requires
 has-mark-requires c κs = search needs
@@ -71,34 +60,27 @@ has-mark-requires-4 c κs = search needs
 returns : tie.Need-returns
 unfolding vertexAt
 returns c =
-    let b = c .before .before .before .before .before .before .before .before in
-    let s = b .before .before in
-    let o = b .base .result + 4 * s .args .p in (
-      rw (c .before .before .before .has-mark .ensures, c .before .before .has-mark2 .ensures, c .before .has-mark3 .ensures, c .has-mark4 .ensures, b .base .ensures)
-          (sym (at-verticesOf (s .args .z) (mem (s .args .work .now)) (s .args .p) (s .pre .1))),
-      record { g = omega (arith, c .before .before .before .before .shared-slice-known5 .given o); v = omega (arith, c .before .before .before .before .shared-slice-known5 .given (o + 1)) },
-    )
+    let s = c .before .before .before .before .before .before .before .before .before .before .before in
+    rw (c .before .before .before .has-mark .ensures, c .before .before .has-mark2 .ensures, c .before .has-mark3 .ensures, c .has-mark4 .ensures, c .before .before .before .before .before .before .before .before .base .ensures)
+    (sym (at-verticesOf (s .args .z) (mem (s .args .work .now) (s .args .wide .now)) (s .args .p) (s .pre .1)))
 
 pub load-spec : {M : Type 1} → statement M
 load-spec =
     tie.close
     (tie.spec
+    mul-i
     base-requires
-    mul-o
     add-o
-    mul-g
-    shared-slice-read-g
-    add-v
-    mul-v
-    shared-slice-read-v
-    add-pred
     mul-pred
     shared-slice-read-pred
     add-marks
     mul-marks
     shared-slice-read-marks
-    cast-t17
-    cast-t18
+    mul-g
+    shared-slice-read-g
+    add-v
+    mul-v
+    shared-slice-read-v
     has-mark-requires
     has-mark-requires-2
     has-mark-requires-3

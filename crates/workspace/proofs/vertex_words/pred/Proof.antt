@@ -1,25 +1,22 @@
 -- `pred` meets its contract.
-use borrow.Author.Needs.{needs}
 use borrow.Author.Tests.{lt-ltb, le-ltb}
 use Rattle.search.specs.Job.{noPred}
 use Rattle.workspace.specs.Layout.{predOf}
+use borrow.Author.Needs.{needs}
 use Rattle.workspace.proofs.vertex_words.pred.Statement.{statement}
 use Rattle.workspace.proofs.vertex_words.pred.Tie as tie
 
 base-requires : tie.Need-base-requires
 base-requires c κs = search needs
 
-mul-o : tie.Need-mul-o
-mul-o c = search needs
-
-add-o : tie.Need-add-o
-add-o c = search needs
+mul-result : tie.Need-mul-result
+mul-result c = search needs
 
 add-result : tie.Need-add-result
 add-result c = search needs
 
-mul-result : tie.Need-mul-result
-mul-result c = search needs
+mul-result-2 : tie.Need-mul-result-2
+mul-result-2 c = search needs
 
 shared-slice-read-result : tie.Need-shared-slice-read-result
 shared-slice-read-result c = search needs
@@ -37,10 +34,9 @@ pred-spec =
     tie.close
     (tie.spec
     base-requires
-    mul-o
-    add-o
-    add-result
     mul-result
+    add-result
+    mul-result-2
     shared-slice-read-result
     returns
     returns-2)

@@ -12,10 +12,13 @@ put-requires c κs = search needs
 same-length : tie.Need-same-length
 same-length c = search needs
 
+same-length-2 : tie.Need-same-length-2
+same-length-2 c = search needs
+
 returns : tie.Need-returns
 returns c =
-    let s = c .before .before .before .before .before in
-    record { words = c .before .before .put .ensures ∙ stored (s .args .z) (mem (s .args .work .now)) (s .args .p) (s .args .x) (s .pre .0) (s .pre .1) }
+    let s = c .before .before .before .before .before .before .before .before .before in
+    record { words = c .before .before .before .before .put .ensures ∙ stored (s .args .z) (mem (s .args .work .now) (s .args .wide .now)) (s .args .p) (s .args .x) (s .pre .0) (s .pre .1) }
 
 pub store-spec : {M : Type 1} → statement M
-store-spec = tie.close (tie.spec put-requires same-length returns)
+store-spec = tie.close (tie.spec put-requires same-length same-length-2 returns)

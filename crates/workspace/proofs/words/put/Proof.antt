@@ -2,16 +2,16 @@
 use lib.ListN.{length-set}
 use native.Mathlib.Omega.{arith}
 use Rattle.search.specs.Outcome.{markWord}
-use Rattle.workspace.specs.Layout.{wordsWith, withVertex}
+use Rattle.workspace.specs.Layout.{withTwo, withVertex}
 use borrow.Author.Needs.{needs}
 use Rattle.workspace.proofs.words.put.Statement.{statement}
 use Rattle.workspace.proofs.words.put.Tie as tie
 
+mul-i : tie.Need-mul-i
+mul-i c = search needs
+
 base-requires : tie.Need-base-requires
 base-requires c κs = search needs
-
-mul-o : tie.Need-mul-o
-mul-o c = search needs
 
 add-o : tie.Need-add-o
 add-o c = search needs
@@ -37,17 +37,11 @@ mark-requires-4 c κs = search needs
 add-marks-3 : tie.Need-add-marks-3
 add-marks-3 c = search needs
 
-cast-work : tie.Need-cast-work
-cast-work c = search needs
-
 mul-work : tie.Need-mul-work
 mul-work c = search needs
 
 slice-write-work : tie.Need-slice-write-work
 slice-write-work c = search needs
-
-cast-work-2 : tie.Need-cast-work-2
-cast-work-2 c = search needs
 
 add-work : tie.Need-add-work
 add-work c = search needs
@@ -58,37 +52,37 @@ mul-work-2 c = search needs
 slice-write-work-2 : tie.Need-slice-write-work-2
 slice-write-work-2 c = simp length-set (omega arith)
 
-add-work-2 : tie.Need-add-work-2
-add-work-2 c = search needs
+mul-wide : tie.Need-mul-wide
+mul-wide c = search needs
 
-mul-work-3 : tie.Need-mul-work-3
-mul-work-3 c = search needs
+slice-write-wide : tie.Need-slice-write-wide
+slice-write-wide c = search needs
 
-slice-write-work-3 : tie.Need-slice-write-work-3
-slice-write-work-3 c = simp length-set (omega arith)
+add-wide : tie.Need-add-wide
+add-wide c = search needs
 
-add-work-3 : tie.Need-add-work-3
-add-work-3 c = search needs
+mul-wide-2 : tie.Need-mul-wide-2
+mul-wide-2 c = search needs
 
-mul-work-4 : tie.Need-mul-work-4
-mul-work-4 c = search needs
-
-slice-write-work-4 : tie.Need-slice-write-work-4
-slice-write-work-4 c = simp length-set (omega arith)
+slice-write-wide-2 : tie.Need-slice-write-wide-2
+slice-write-wide-2 c = simp length-set (omega arith)
 
 same-length : tie.Need-same-length
 same-length c = search needs
 
+same-length-2 : tie.Need-same-length-2
+same-length-2 c = search needs
+
 returns : tie.Need-returns
-unfolding withVertex wordsWith markWord
+unfolding withVertex withTwo markWord
 returns c = rw (c .before .before .before .mark .ensures .0, c .before .before .mark2 .ensures .0, c .before .mark3 .ensures .0, c .mark4 .ensures .0, c .before .before .before .before .base .ensures)
 
 pub put-spec : {M : Type 1} → statement M
 put-spec =
     tie.close
     (tie.spec
+    mul-i
     base-requires
-    mul-o
     add-o
     mark-requires
     mark-requires-2
@@ -97,18 +91,16 @@ put-spec =
     add-marks-2
     mark-requires-4
     add-marks-3
-    cast-work
     mul-work
     slice-write-work
-    cast-work-2
     add-work
     mul-work-2
     slice-write-work-2
-    add-work-2
-    mul-work-3
-    slice-write-work-3
-    add-work-3
-    mul-work-4
-    slice-write-work-4
+    mul-wide
+    slice-write-wide
+    add-wide
+    mul-wide-2
+    slice-write-wide-2
     same-length
+    same-length-2
     returns)
