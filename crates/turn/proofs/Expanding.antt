@@ -17,18 +17,8 @@ use Rattle.search.proofs.Moves.{length-relaxAll}
 use Rattle.search.proofs.Permitted.{permitted-append}
 use Rattle.search.proofs.Tools.{cond-false, same-cases}
 use Rattle.workspace.specs.declared.Size.{Size}
-use Rattle.workspace.specs.Layout.{Words, verticesOf, written, firstOf, edgeAt, edgesRun, edgesAt, edgesUnder, graphOf, Fits, Ready, Becomes}
-use Rattle.workspace.proofs.Written.{length-verticesOf, verticesOf-written, written-written, length-stored, unchanged, ready-loaded, graphOf-written, ready-kept, length-kept, edge-kept, then-vertices, then-kept}
-
--- ---- costs fit
-
-pub fits-marked : (i : ℕ) (x : Vertex) → Fits x → Fits (marked i x)
-unfolding marked
-fits-marked i x f = record { g = f .g; v = f .g }
-
-pub fits-lowered : (c s : ℕ) (x : Vertex) → Fits x → c < x .g → Fits (lowered c s x)
-unfolding lowered
-fits-lowered c s x f h = record { g = omega (arith, f .g); v = f .v }
+use Rattle.workspace.specs.Layout.{Words, verticesOf, written, firstOf, edgeAt, edgesRun, edgesAt, edgesUnder, graphOf, Ready, Becomes}
+use Rattle.workspace.proofs.Written.{length-verticesOf, verticesOf-written, written-written, length-stored, unchanged, ready-loaded, graphOf-written, ready-kept, length-kept, wide-kept, edge-kept, then-vertices, then-kept}
 
 -- ---- one edge
 
@@ -151,6 +141,9 @@ module _ (z : Size) (b s c first e : ℕ) (m₀ : Words) (r : Ready z m₀) wher
 
     pub tried-length : length (m .work) ≡ length (m₀ .work)
     tried-length = length-kept z m₀ m r (k .kept)
+
+    pub tried-wide : length (m .wide) ≡ length (m₀ .wide)
+    tried-wide = wide-kept z m₀ m r (k .kept)
 
     pub tried-next :
         (m′ : Words) → j < e → j < z .edges → Becomes z (tried b s c (edgeAt z (m .work) s j ∷ []) (verticesOf z m)) m m′ →

@@ -13,7 +13,8 @@ use Rattle.search.specs.declared.Best.the-variants.{Nobody, Found}
 use Rattle.search.specs.declared.Vertex.{Vertex}
 use Rattle.search.specs.Job.{at, fresh}
 use Rattle.search.specs.Turn.{key, offered, better, leastFrom, least}
-use Rattle.search.specs.Bounds.{maxKey, Within}
+use Rattle.search.specs.Bounds.{maxG, maxKey, Priced, Within}
+use Rattle.search.proofs.Rule.{offered-opened}
 use Rattle.workspace.specs.declared.Size.{Size}
 use Rattle.workspace.specs.Layout.{Words, verticesOf}
 use Rattle.workspace.proofs.Written.{length-verticesOf}
@@ -53,6 +54,10 @@ module _ (n : ℕ) where
     pub offered-left : o ≡ false → (b ≡ better o k s b) × Within n b
     unfolding better
     offered-left e = (rw e, h)
+
+-- a vertex that is offered has a g that the code may reckon with
+pub offered-priced : (st : List Vertex) → Priced st → (i h s : ℕ) → offered i h (at st s) ≡ true → at st s .g ≤ maxG
+offered-priced st p i h s e = p .reached s (p .opened s (offered-opened i h (at st s) (rw e tt)))
 
 -- ---- the scan: b is the best of the vertices before s
 

@@ -6,7 +6,7 @@ use Rattle.graph.specs.Limits.{maxVertices}
 use Rattle.search.specs.declared.Choice.{Choice}
 use Rattle.search.specs.declared.Factors.{Factors}
 use Rattle.search.specs.Turn.{candidate, choose}
-use Rattle.search.specs.Bounds.{maxFactor}
+use Rattle.search.specs.Bounds.{maxFactor, Priced}
 use Rattle.workspace.specs.declared.Size.{Size}
 use Rattle.workspace.specs.Layout.{Words, verticesOf, Ready}
 
@@ -25,6 +25,7 @@ choiceWord c = c .vertex + 65536 * c .heuristic
 -- what a turn of heuristic i asks of its arguments
 pub record Asked (z : Size) (f : Factors) (guides : List ℕ) (m : Words) (i : ℕ) : Type 0 where
   pub ready : Ready z m
+  pub priced : Priced (verticesOf z m)
   pub sheets : i * z .vertices ≤ length guides
   pub few : i ≤ 8
   pub small : z .vertices ≤ maxVertices

@@ -10,7 +10,7 @@ ghost use lib.ListN.{length, set};
 ghost use Rattle.search.specs.Permitted.{permitted};
 ghost use Rattle.search.specs.Job.{at};
 ghost use Rattle.search.specs.Turn.{least, stepOne, candidate, expand};
-ghost use Rattle.search.specs.Bounds.{maxFactor, DueWithin, maxKey, Within};
+ghost use Rattle.search.specs.Bounds.{maxFactor, DueWithin, maxKey, Priced, Within};
 ghost use Rattle.workspace.specs.Layout.{mem, Room, verticesOf, graphOf, Becomes};
 ghost use Rattle.turn.specs.Asked.{sheet, choiceOf, choiceWord, Asked};
 use search::Best;
@@ -21,21 +21,21 @@ use workspace::Size;
 use workspace::vertex_words;
 
 // Step 1: nothing is open, the round is finished, or a turn is due.
-pub fn step_one(work: &[u32], anchor: &[u32], z: Size, f: Factors, goal: u32) -> Step
-    requires { ⌜ Room z (mem (now work)) × (z .vertices ≤ length (now anchor)) × (goal < z .vertices) × (f .w1 ≤ maxFactor) × (f .w2 ≤ maxFactor) ⌝ }
-    ensures { λ r. ⌜ (r ≡ stepOne (f .w2) (at (verticesOf z (mem (now (work .entry)))) goal .g) (least 0 (f .w1) (now (anchor .entry)) (verticesOf z (mem (now (work .entry)))))) × DueWithin (z .vertices) r ⌝ }
+pub fn step_one(work: &[u32], wide: &[u64], anchor: &[u32], z: Size, f: Factors, goal: u32) -> Step
+    requires { ⌜ Room z (mem (now work) (now wide)) × (z .vertices ≤ length (now anchor)) × (goal < z .vertices) × (f .w1 ≤ maxFactor) × (f .w2 ≤ maxFactor) × Priced (verticesOf z (mem (now work) (now wide))) ⌝ }
+    ensures { λ r. ⌜ (r ≡ stepOne (f .w2) (at (verticesOf z (mem (now (work .entry)) (now (wide .entry)))) goal .g) (least 0 (f .w1) (now (anchor .entry)) (verticesOf z (mem (now (work .entry)) (now (wide .entry)))))) × DueWithin (z .vertices) r ⌝ }
 {
     let w1 = f.w1;
     let w2 = f.w2;
-    let x = vertex_words::load(work, z, goal);
-    let b = scan::least(work, anchor, z, 0, w1);
+    let x = vertex_words::load(work, wide, z, goal);
+    let b = scan::least(work, wide, anchor, z, 0, w1);
     rules::step_one(w2, x.g, b)
 }
 
 // The best of inadmissible heuristic i; nobody where there are no guides.
-fn candidate(work: &[u32], guides: &[u32], z: Size, i: u32, w1: u32) -> Best
-    requires { ⌜ Room z (mem (now work)) × (i * z .vertices ≤ length (now guides)) × (w1 ≤ maxFactor) ⌝ }
-    ensures { λ r. ⌜ (r ≡ candidate i w1 (sheet (z .vertices) i (now (guides .entry))) (verticesOf z (mem (now (work .entry))))) × Within (z .vertices) r ⌝ }
+fn candidate(work: &[u32], wide: &[u64], guides: &[u32], z: Size, i: u32, w1: u32) -> Best
+    requires { ⌜ Room z (mem (now work) (now wide)) × (i * z .vertices ≤ length (now guides)) × (w1 ≤ maxFactor) × Priced (verticesOf z (mem (now work) (now wide))) ⌝ }
+    ensures { λ r. ⌜ (r ≡ candidate i w1 (sheet (z .vertices) i (now (guides .entry))) (verticesOf z (mem (now (work .entry)) (now (wide .entry))))) × Within (z .vertices) r ⌝ }
 {
     if i == 0 {
         return Best::Nobody;
@@ -44,17 +44,26 @@ fn candidate(work: &[u32], guides: &[u32], z: Size, i: u32, w1: u32) -> Best
     let from = ((i - 1) as usize) * (vertices as usize);
     let to = from + (vertices as usize);
     let numbers = &guides[from..to];
-    scan::least(work, numbers, z, i, w1)
+    scan::least(work, wide, numbers, z, i, w1)
 }
 
 // Step 3: what a turn of heuristic i expands, where the anchor's least key is m at vertex a.
-fn choice(work: &[u32], guides: &[u32], z: Size, f: Factors, m: u64, a: u32, i: u32) -> Choice
-    requires { ⌜ Asked z f (now guides) (mem (now work)) i × (m ≤ maxKey) × (a < z .vertices) ⌝ }
-    ensures { λ r. ⌜ (r ≡ choiceOf z f (now (guides .entry)) (mem (now (work .entry))) m a i) × (r .vertex < z .vertices) × (r .heuristic ≤ i) ⌝ }
+fn choice(
+    work: &[u32],
+    wide: &[u64],
+    guides: &[u32],
+    z: Size,
+    f: Factors,
+    m: u64,
+    a: u32,
+    i: u32,
+) -> Choice
+    requires { ⌜ Asked z f (now guides) (mem (now work) (now wide)) i × (m ≤ maxKey) × (a < z .vertices) ⌝ }
+    ensures { λ r. ⌜ (r ≡ choiceOf z f (now (guides .entry)) (mem (now (work .entry)) (now (wide .entry))) m a i) × (r .vertex < z .vertices) × (r .heuristic ≤ i) ⌝ }
 {
     let w1 = f.w1;
     let w2 = f.w2;
-    let b = candidate(work, guides, z, i, w1);
+    let b = candidate(work, wide, guides, z, i, w1);
     rules::choose(w2, m, a, i, b)
 }
 
@@ -75,6 +84,7 @@ fn note(log: &mut [u32], k: u32, c: Choice)
 // classes are given.
 pub fn turn(
     work: &mut [u32],
+    wide: &mut [u64],
     log: &mut [u32],
     guides: &[u32],
     z: Size,
@@ -85,11 +95,11 @@ pub fn turn(
     i: u32,
     k: u32,
 )
-    requires { ⌜ Asked z f (now guides) (mem (now work)) i × (m ≤ maxKey) × (a < z .vertices) ⌝ }
-    ensures { λ _. ⌜ Becomes z (expand (permitted barred (graphOf z (now (work .entry)))) (choiceOf z f (now (guides .entry)) (mem (now (work .entry))) m a i .heuristic) (choiceOf z f (now (guides .entry)) (mem (now (work .entry))) m a i .vertex) (verticesOf z (mem (now (work .entry))))) (mem (now (work .entry))) (mem (now (work .exit))) ⌝ }
-    ensures { λ _. ⌜ now (log .exit) ≡ set (now (log .entry)) k (choiceWord (choiceOf z f (now (guides .entry)) (mem (now (work .entry))) m a i)) ⌝ }
+    requires { ⌜ Asked z f (now guides) (mem (now work) (now wide)) i × (m ≤ maxKey) × (a < z .vertices) ⌝ }
+    ensures { λ _. ⌜ Becomes z (expand (permitted barred (graphOf z (now (work .entry)))) (choiceOf z f (now (guides .entry)) (mem (now (work .entry)) (now (wide .entry))) m a i .heuristic) (choiceOf z f (now (guides .entry)) (mem (now (work .entry)) (now (wide .entry))) m a i .vertex) (verticesOf z (mem (now (work .entry)) (now (wide .entry))))) (mem (now (work .entry)) (now (wide .entry))) (mem (now (work .exit)) (now (wide .exit))) ⌝ }
+    ensures { λ _. ⌜ now (log .exit) ≡ set (now (log .entry)) k (choiceWord (choiceOf z f (now (guides .entry)) (mem (now (work .entry)) (now (wide .entry))) m a i)) ⌝ }
 {
-    let c = choice(work, guides, z, f, m, a, i);
+    let c = choice(work, wide, guides, z, f, m, a, i);
     note(log, k, c);
-    expansion::expand(work, z, barred, c.heuristic, c.vertex);
+    expansion::expand(work, wide, z, barred, c.heuristic, c.vertex);
 }

@@ -6,7 +6,7 @@ ghost use lib.ListN.{length, getD};
 ghost use Rattle.search.specs.declared.Best.the-variants.{Nobody};
 ghost use Rattle.search.specs.Job.{at};
 ghost use Rattle.search.specs.Turn.{key, offered, better, least};
-ghost use Rattle.search.specs.Bounds.{maxFactor, maxKey, Within};
+ghost use Rattle.search.specs.Bounds.{maxFactor, maxKey, Priced, Within};
 ghost use Rattle.turn.specs.Lead.{bestOf};
 ghost use Rattle.workspace.specs.Layout.{mem, Room, verticesOf};
 use crate::vertices;
@@ -55,12 +55,21 @@ impl Lead {
 }
 
 // The better of the best so far and vertex s.
-fn consider(work: &[u32], numbers: &[u32], z: Size, i: u32, w1: u32, s: u32, lead: Lead) -> Lead
-    requires { ⌜ Room z (mem (now work)) × (s < z .vertices) × (z .vertices ≤ length (now numbers)) × (w1 ≤ maxFactor) × Within (z .vertices) (bestOf lead) ⌝ }
-    ensures { λ r. ⌜ (bestOf r ≡ better (offered i (getD (now (numbers .entry)) s 0) (at (verticesOf z (mem (now (work .entry)))) s)) (key w1 (getD (now (numbers .entry)) s 0) (at (verticesOf z (mem (now (work .entry)))) s)) s (bestOf lead)) × Within (z .vertices) (bestOf r) ⌝ }
+fn consider(
+    work: &[u32],
+    wide: &[u64],
+    numbers: &[u32],
+    z: Size,
+    i: u32,
+    w1: u32,
+    s: u32,
+    lead: Lead,
+) -> Lead
+    requires { ⌜ Room z (mem (now work) (now wide)) × (s < z .vertices) × (z .vertices ≤ length (now numbers)) × (w1 ≤ maxFactor) × Within (z .vertices) (bestOf lead) × Priced (verticesOf z (mem (now work) (now wide))) ⌝ }
+    ensures { λ r. ⌜ (bestOf r ≡ better (offered i (getD (now (numbers .entry)) s 0) (at (verticesOf z (mem (now (work .entry)) (now (wide .entry)))) s)) (key w1 (getD (now (numbers .entry)) s 0) (at (verticesOf z (mem (now (work .entry)) (now (wide .entry)))) s)) s (bestOf lead)) × Within (z .vertices) (bestOf r) ⌝ }
 {
     let h = numbers[s as usize];
-    let x = vertex_words::load(work, z, s);
+    let x = vertex_words::load(work, wide, z, s);
     if vertices::offered(x, i, h) {
         return lead.better(vertices::key(x, w1, h), s);
     }
@@ -68,15 +77,15 @@ fn consider(work: &[u32], numbers: &[u32], z: Size, i: u32, w1: u32, s: u32, lea
 }
 
 // The best vertex of heuristic i, whose numbers are given.
-pub fn least(work: &[u32], numbers: &[u32], z: Size, i: u32, w1: u32) -> Best
-    requires { ⌜ Room z (mem (now work)) × (z .vertices ≤ length (now numbers)) × (w1 ≤ maxFactor) ⌝ }
-    ensures { λ r. ⌜ (r ≡ least i w1 (now (numbers .entry)) (verticesOf z (mem (now (work .entry))))) × Within (z .vertices) r ⌝ }
+pub fn least(work: &[u32], wide: &[u64], numbers: &[u32], z: Size, i: u32, w1: u32) -> Best
+    requires { ⌜ Room z (mem (now work) (now wide)) × (z .vertices ≤ length (now numbers)) × (w1 ≤ maxFactor) × Priced (verticesOf z (mem (now work) (now wide))) ⌝ }
+    ensures { λ r. ⌜ (r ≡ least i w1 (now (numbers .entry)) (verticesOf z (mem (now (work .entry)) (now (wide .entry))))) × Within (z .vertices) r ⌝ }
 {
     let vertices = z.vertices;
     let mut lead = Lead::none();
     let mut s: u32 = 0;
     while s < vertices {
-        lead = consider(work, numbers, z, i, w1, s, lead);
+        lead = consider(work, wide, numbers, z, i, w1, s, lead);
         s += 1;
     }
     lead.best()

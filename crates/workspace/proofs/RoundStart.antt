@@ -13,7 +13,6 @@ use Rattle.workspace.specs.declared.Size.{Size}
 use Rattle.workspace.specs.Layout.{Words, Room, verticesOf, written, withVertex, Ready, Becomes}
 use Rattle.workspace.proofs.Written.{written-set, written-more, length-verticesOf, length-stored, unchanged, then-vertices, then-kept}
 
-
 -- ---- the loop that makes the vertices fresh
 
 module _ (z : Size) (m₀ m m′ : Words) (p : ℕ) (r : Room z m₀) (e : m ≡ written z (replicate p fresh) m₀) where

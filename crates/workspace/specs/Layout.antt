@@ -136,7 +136,6 @@ withEdge z before j e w = edgePut z j e (sets w (before + 1) (replicate (e .tail
 
 -- ---- what contracts ask
 
-
 -- work memory holds a graph, whatever words the vertices have
 pub record Loaded (z : Size) (w : List ℕ) : Type 0 where
   pub room : WorkRoom z w

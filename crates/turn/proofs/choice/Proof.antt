@@ -14,7 +14,7 @@ choose-requires c κs = search needs
 returns : tie.Need-returns
 unfolding choiceOf
 returns c =
-    let s = c .before .before .before .before in
+    let s = c .before .before .before .before .before in
     let k = choose-inside (s .args .z .vertices) (s .args .f .w2) (s .args .m) (s .args .a) (s .args .i) _ (c .before .candidate .ensures .1) (s .pre .2) in (
       rw (c .choose .ensures, c .before .candidate .ensures .0),
       rw (c .choose .ensures) (k .vertex),

@@ -15,7 +15,7 @@ enum-known-b : tie.Need-enum-known-b
 enum-known-b c = search needs
 
 mul-if2 : tie.Need-mul-if2
-mul-if2 c = search needs
+mul-if2 c = omega (arith, c .before .before .before .before .pre .2 (unfold unreached in (c .if1 .taken)))
 
 mul-if2-2 : tie.Need-mul-if2-2
 mul-if2-2 c = omega (arith, c .before .before .before .before .pre .1 .key _ _ (c .before .before .b .given .1), mul-le-mul-right (c .before .before .b .given .0 .0) (c .before .before .before .before .pre .0))

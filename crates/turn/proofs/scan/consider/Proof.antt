@@ -1,6 +1,6 @@
 -- `consider` meets its contract.
 use mathlib.Core.Path.{sym, _∙_}
-use Rattle.turn.proofs.Scanning.{offered-taken, offered-left}
+use Rattle.turn.proofs.Scanning.{offered-taken, offered-left, offered-priced}
 use borrow.Author.Needs.{needs}
 use Rattle.turn.proofs.scan.consider.Statement.{statement}
 use Rattle.turn.proofs.scan.consider.Tie as tie
@@ -18,23 +18,27 @@ offered-requires : tie.Need-offered-requires
 offered-requires c κs = search needs
 
 key-requires : tie.Need-key-requires
-key-requires c κs = search needs
+key-requires c κs =
+    let s = c .before .before .before .before .before .before .before in
+    let x = c .before .before .load .ensures in
+    let o = sym (rw x at (c .before .offered .ensures)) ∙ c .if1 .taken in
+    (s .pre .3, rw x (offered-priced _ (s .pre .5) (s .args .i) _ (s .args .s) o))
 
 better-requires : tie.Need-better-requires
 better-requires c κs = search needs
 
 returns : tie.Need-returns
 returns c =
-    let s = c .before .before .before .before .before .before .before .before in
-    let x = c .before .before .before .before .load .ensures .0 in
+    let s = c .before .before .before .before .before .before .before .before .before in
+    let x = c .before .before .before .before .load .ensures in
     let o = sym (rw x at (c .before .before .before .offered .ensures)) ∙ c .before .before .if1 .taken in
     let k = rw x at (c .before .key .ensures .0) in
     offered-taken _ _ _ _ _ (s .pre .4) _ o (rw k at (c .before .key .ensures .1)) (s .pre .1) (rw k at (c .better .ensures))
 
 returns-2 : tie.Need-returns-2
 returns-2 c =
-    let s = c .before .before .before .before .before .before in
-    let o = sym (rw (c .before .before .load .ensures .0) at (c .before .offered .ensures)) ∙ c .if1 .left in
+    let s = c .before .before .before .before .before .before .before in
+    let o = sym (rw (c .before .before .load .ensures) at (c .before .offered .ensures)) ∙ c .if1 .left in
     offered-left _ _ _ _ _ (s .pre .4) o
 
 pub consider-spec : {M : Type 1} → statement M

@@ -8,10 +8,10 @@ use Rattle.turn.proofs.scan.least.Statement.{statement}
 use Rattle.turn.proofs.scan.least.Tie as tie
 
 abbrev Inv-loop : tie.InvT-loop
-Inv-loop work numbers z i w1 vertices lead₀ s₀ lead s = Scanned z (mem work) numbers i w1 s (bestOf lead)
+Inv-loop work wide numbers z i w1 vertices lead₀ s₀ lead s = Scanned z (mem work wide) numbers i w1 s (bestOf lead)
 
 abbrev μ-loop : tie.MeasureT-loop
-μ-loop work numbers z i w1 vertices lead₀ s₀ lead s = vertices - s
+μ-loop work wide numbers z i w1 vertices lead₀ s₀ lead s = vertices - s
 
 none-requires : tie.Need-none-requires Inv-loop μ-loop
 none-requires c κs = search needs
@@ -21,8 +21,8 @@ loop-holds c = scanned-none _ _ _ _ _ _ (c .none .ensures)
 
 consider-requires : tie.Need-consider-requires Inv-loop μ-loop
 consider-requires c κs =
-    let s = c .before .before .before .before .before in
-    (s .pre .0, c .loop-test .taken, s .pre .1, s .pre .2, c .before .loop .inv .fits)
+    let s = c .before .before .before .before .before .before in
+    (s .pre .0, c .loop-test .taken, s .pre .1, s .pre .2, c .before .loop .inv .fits, s .pre .3)
 
 add-s : tie.Need-add-s Inv-loop μ-loop
 add-s c = search needs
