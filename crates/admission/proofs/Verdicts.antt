@@ -63,7 +63,7 @@ module _
   tables = ltb 8 (q .guides) || not (eqb (length anchor) v && eqb (length sheets) (q .guides * v))
 
   abbrev memory : Bool
-  memory = ltb (lengths .route) v || ltb (lengths .work) (5 * v + 1 + 3 * m)
+  memory = ltb (lengths .route) v || ltb (lengths .work) (3 * v + 1 + 3 * m) || ltb (lengths .wide) (2 * v)
 
   abbrev last : List Fault
   last = row (not (eqb (getD anchor (q .goal) 0) 0)) 12 0 ∷ edgesRow anchor 0 edges ∷ []
@@ -90,6 +90,7 @@ module _
               k .count-is,
               k .route-is,
               k .work-is,
+              k .wide-is,
               size,
             ));
       }

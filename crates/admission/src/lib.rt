@@ -22,6 +22,7 @@ pub struct Query {
 pub struct Lengths {
     pub route: usize,
     pub work: usize,
+    pub wide: usize,
 }
 
 // What is decided of a call: it is admitted, with V and M and the offset of the plan's first edge; or refused,

@@ -45,15 +45,18 @@ fn tables_fail(vertices: u32, anchor: usize, guides: usize, guide_count: u32) ->
     guides != guide_count as usize * each
 }
 
-// Row 11, by the lengths of route and work memory: route under V words, or work under 5V+1+3M.
+// Row 11, by the lengths of lent memory: route under V words, work under 3V+1+3M words, or wide under 2V numbers.
 fn memory_fails(vertices: u32, edges: u32, lengths: Lengths) -> bool
-    ensures { λ r. ⌜ r ≡ (ltb (lengths .route) vertices || ltb (lengths .work) (5 * vertices + 1 + 3 * edges)) ⌝ }
+    ensures { λ r. ⌜ r ≡ (ltb (lengths .route) vertices || ltb (lengths .work) (3 * vertices + 1 + 3 * edges) || ltb (lengths .wide) (2 * vertices)) ⌝ }
 {
     let v = vertices as usize;
     if lengths.route < v {
         return true;
     }
-    lengths.work < 5 * v + 1 + 3 * edges as usize
+    if lengths.work < 3 * v + 1 + 3 * edges as usize {
+        return true;
+    }
+    lengths.wide < 2 * v
 }
 
 // The rows of a call whose plan was checked.
