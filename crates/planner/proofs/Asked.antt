@@ -8,12 +8,15 @@ use lib.ListN.{length}
 use Rattle.graph.specs.Limits.{maxVertices}
 use Rattle.graph.proofs.Within.{accepted-within}
 use Rattle.search.specs.Job.{State, factors}
-use Rattle.search.specs.Call.{Memory, Call, scheduleOf, pairs, jobOf}
+use Rattle.search.specs.Call.{Memory, Call, scheduleOf, pairs, planEdges, jobOf}
+use Rattle.search.specs.Bounds.{Priced}
 use Rattle.search.specs.Admitted.{Admissible}
 use Rattle.search.proofs.Facts.{Valid, InRange}
 use Rattle.search.proofs.Admitted.{clear, admitted, plan-edges}
+use Rattle.search.proofs.Legal.{between, priced}
 use Rattle.workspace.specs.declared.Size.{Size}
-use Rattle.workspace.specs.Layout.{base, Room}
+use Rattle.workspace.specs.Layout.{base, Room, verticesOf}
+use Rattle.workspace.proofs.Holding.{holds-vertices}
 use Rattle.admission.specs.declared.Query.{Query}
 use Rattle.planner.specs.Carried.{Asking, wordsOf, Carries}
 use Rattle.search.specs.declared.Progress.{Progress}
@@ -60,7 +63,11 @@ module _ (c : Call) (z : Size) (q : Query) (a : Asking c z q) where
 
   pub words-room : Room z (wordsOf (c .memory))
   unfolding base
-  words-room = record { work = omega (arith, rows .work-room, same, a .edges, ap length (plan-edges c (plan .v) (plan .es) (plan .plan))) }
+  words-room =
+      record {
+        work = omega (arith, rows .work-room, same, a .edges, ap length (plan-edges c (plan .v) (plan .es) (plan .plan)));
+        wide = omega (arith, rows .wide-room, same);
+      }
 
   -- at most 16 rounds, of two factors each
   pub schedule-short : length (scheduleOf c) ≤ 32
@@ -73,6 +80,14 @@ module _ (c : Call) (z : Size) (q : Query) (a : Asking c z q) where
 
     pub rounds-are : (n : ℕ) → n ≡ length (pairs schedule) → n ≡ length (jobOf c .schedule)
     rounds-are n e = e ∙ ap (λ (l : List ℕ). length (pairs l)) d ∙ sym (ap length (job-schedule c))
+
+-- the costs in memory are such that the code may reckon with them
+pub priced-in :
+    (c : Call) (z : Size) (q : Query) → Asking c z q → (s : State) (p : Progress) (m : Memory) → Carries c z s p m → Priced (verticesOf z (wordsOf m))
+priced-in c z q a s p m k =
+    let v : Valid (jobOf c) = admitted c (a .admitted) in
+    rw (holds-vertices z (planEdges c) (s .vertices) (wordsOf (c .memory)) (wordsOf m) (k .words))
+    (priced (jobOf c) v (s .vertices) (between (jobOf c) v (k .ok .reach) .ground) (omega (arith, small c z q a, a .vertices)))
 
 -- route memory has V words
 pub route-long :

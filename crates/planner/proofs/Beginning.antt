@@ -17,9 +17,9 @@ use Rattle.search.specs.Outcome.{routeAfter}
 use Rattle.search.proofs.Admitted.{admitted, plan-edges}
 use Rattle.search.proofs.Standing.{first-ok}
 use Rattle.workspace.specs.declared.Size.{Size}
-use Rattle.workspace.specs.Layout.{base, Words, Room, graphWords, Becomes}
+use Rattle.workspace.specs.Layout.{base, Words, mem, Room, graphWords, Becomes}
 use Rattle.workspace.specs.Holds.{Holds, Rising}
-use Rattle.workspace.proofs.Holding.{accepted-rising, graph-room, holds-laid}
+use Rattle.workspace.proofs.Holding.{accepted-rising, withGraph, graph-room, holds-laid}
 use Rattle.progress.specs.Moved.{firstProgress}
 use Rattle.admission.specs.declared.Query.{Query}
 use Rattle.planner.specs.declared.Standing.{Standing}
@@ -83,12 +83,14 @@ module _ (c : Call) (z : Size) (q : Query) (bytes anchor schedule : List ℕ) (a
 
   module _ (loaded : List ℕ)
       (l : loaded ≡ over (graphWords (z .vertices) (edgesIn (edgesFrom (z .vertices) (z .edges) bytes (firstAt at)))) (m .work)) where
-    graph-laid : loaded ≡ over (graphWords (z .vertices) (planEdges c)) (m .work)
-    graph-laid = l ∙ ap (λ (es : List Edge). over (graphWords (z .vertices) es) (m .work)) edges-are
-
     -- memory, the graph loaded
     abbrev u : Words
-    u = wordsOf (memoryOf (m .route) [] loaded)
+    u = wordsOf (memoryOf (m .route) [] loaded (m .wide))
+
+    graph-laid : u ≡ withGraph z (planEdges c) (wordsOf m)
+    graph-laid =
+        ap (λ (w : List ℕ). mem w (m .wide))
+        (l ∙ ap (λ (es : List Edge). over (graphWords (z .vertices) es) (m .work)) edges-are)
 
     pub first-asks : Room z u × (q .start < z .vertices)
     first-asks = (rw graph-laid (graph-room z (planEdges c) (wordsOf m) count-is room), start-in c z q (h .asking))

@@ -55,11 +55,11 @@ module _ (c : Call) (z : Size) (q : Query) (at : ℕ) (bytes anchor guides sched
         header-is = l .header-is;
       }
 
-  module _ (first : Standing) (route work : List ℕ)
-      (b : Begins z q bytes anchor schedule at (unlogged m) first (memoryOf route [] work)) where
-    pub reaches-begin : Reaches c z (begin job) [] first (memoryOf route (m .log) work)
+  module _ (first : Standing) (route work wide : List ℕ)
+      (b : Begins z q bytes anchor schedule at (unlogged m) first (memoryOf route [] work wide)) where
+    pub reaches-begin : Reaches c z (begin job) [] first (memoryOf route (m .log) work wide)
     reaches-begin =
-        let y : Stands c z (begin job) first (memoryOf route [] work) = b .begins c called in
+        let y : Stands c z (begin job) first (memoryOf route [] work wide) = b .begins c called in
         record {
           stands = stands-log (m .log) y;
           good = begin-good job (admitted c (l .asking .admitted));
@@ -69,7 +69,7 @@ module _ (c : Call) (z : Size) (q : Query) (at : ℕ) (bytes anchor guides sched
 
     -- ---- and is handed over
 
-    module _ (n : ℕ) (last : Standing) (m′ : Memory) (k : Runs z q anchor guides schedule n first (memoryOf route (m .log) work) last m′) where
+    module _ (n : ℕ) (last : Standing) (m′ : Memory) (k : Runs z q anchor guides schedule n first (memoryOf route (m .log) work wide) last m′) where
       pub reaches-end : Reaches c z (run job n (begin job)) (moments job n (begin job)) last m′
       reaches-end = k .runs c (l .asking) (l .given) reaches-begin
 
@@ -83,7 +83,7 @@ module _ (c : Call) (z : Size) (q : Query) (at : ℕ) (bytes anchor guides sched
           = y .stands .carries .words .words
           ∙ ap (λ (v : ℕ). over (workWords v (planEdges c) (run job (c .budget) (begin job) .state .vertices)) (c .memory .work)) (l .asking .vertices) in (
             rw (l .asking .admitted) f′,
-            rw (l .asking .admitted) (same-memory (y .stands .carries .kept) (y .logged) w),
+            rw (l .asking .admitted) (same-memory (y .stands .carries .kept) (y .logged) w (y .stands .carries .words .numbers)),
           )
 
 -- ---- refused, or not
@@ -97,7 +97,7 @@ picked-some (w ∷ ws) schedule usual e u = omega (arith, ap length e)
 module _ (bytes : List ℕ) (start goal barred : ℕ) (anchor sheets : List ℕ) (count : ℕ) (given : List ℕ) (budget : ℕ) (m : Memory)
     (schedule usual : List ℕ) (e : schedule ≡ inForce usual given) (u : usual ≡ house) (d : Verdict)
     (k : Decided bytes (queryOf (callOf bytes start goal barred anchor sheets count given budget m)) anchor sheets schedule
-    (record { route = length (m .route); work = length (m .work) }) d) where
+    (record { route = length (m .route); work = length (m .work); wide = length (m .wide) }) d) where
   abbrev c : Call
   c = callOf bytes start goal barred anchor sheets count given budget m
 
@@ -119,6 +119,7 @@ module _ (bytes : List ℕ) (start goal barred : ℕ) (anchor sheets : List ℕ)
         schedule-is = sym picked;
         route-is = refl;
         work-is = refl;
+        wide-is = refl;
       })
 
   pub planned-refused : (n p : ℕ) → d ≡ Refused n p → Planned c (answers.Refused n p) m
@@ -168,22 +169,22 @@ module _ (z : Size) (q : Query) (at : ℕ) (bytes anchor guides schedule : List 
   pub beginning : Admission z q at bytes anchor guides schedule m → Beginning z q bytes anchor schedule at (unlogged m)
   beginning a = record { call = a .call; called = called (a .call) z q at bytes anchor guides schedule m (a .lent) }
 
-  module _ (first : Standing) (route work : List ℕ)
-      (b : Begins z q bytes anchor schedule at (unlogged m) first (memoryOf route [] work)) where
-    pub running : Admission z q at bytes anchor guides schedule m → Running z q anchor guides schedule first (memoryOf route (m .log) work)
+  module _ (first : Standing) (route work wide : List ℕ)
+      (b : Begins z q bytes anchor schedule at (unlogged m) first (memoryOf route [] work wide)) where
+    pub running : Admission z q at bytes anchor guides schedule m → Running z q anchor guides schedule first (memoryOf route (m .log) work wide)
     running a =
         record {
           call = a .call;
           asking = a .lent .asking;
           given = a .lent .given;
-          reaches = reaches-begin (a .call) z q at bytes anchor guides schedule m (a .lent) first route work b;
+          reaches = reaches-begin (a .call) z q at bytes anchor guides schedule m (a .lent) first route work wide b;
         }
 
-    module _ (last : Standing) (m′ : Memory) (k : Runs z q anchor guides schedule (q .budget) first (memoryOf route (m .log) work) last m′) where
+    module _ (last : Standing) (m′ : Memory) (k : Runs z q anchor guides schedule (q .budget) first (memoryOf route (m .log) work wide) last m′) where
       at-end :
           (c : Call) → Lent c z q at bytes anchor guides schedule m → AtEnd c z (run (jobOf c) (q .budget) (begin (jobOf c))) last schedule m′
       at-end c l =
-          let y = reaches-end c z q at bytes anchor guides schedule m l first route work b (q .budget) last m′ k in
+          let y = reaches-end c z q at bytes anchor guides schedule m l first route work wide b (q .budget) last m′ k in
           record {
             admitted = l .asking .admitted;
             vertices = l .asking .vertices;
@@ -207,6 +208,6 @@ module _ (z : Size) (q : Query) (at : ℕ) (bytes anchor guides schedule : List 
           record {
             answered =
                 λ c l.
-                handed c z q at bytes anchor guides schedule m l first route work b (q .budget) last m′ k r (l .budget-is)
+                handed c z q at bytes anchor guides schedule m l first route work wide b (q .budget) last m′ k r (l .budget-is)
                 (f .finishes c (run (jobOf c) (q .budget) (begin (jobOf c))) m′ refl (at-end c l));
           }

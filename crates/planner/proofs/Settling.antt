@@ -12,7 +12,7 @@ use Rattle.search.specs.Job.{State, Job, factors, at}
 use Rattle.search.specs.Turn.{least, stepOne}
 use Rattle.search.specs.Rounds.{Stand, ended, inHand, step, endRound, onFinished, settle}
 use Rattle.search.specs.Call.{Memory, Call, scheduleOf, pairs, planEdges, jobOf}
-use Rattle.search.specs.Bounds.{maxFactor, DueWithin}
+use Rattle.search.specs.Bounds.{maxFactor, Priced, DueWithin}
 use Rattle.search.proofs.Facts.{InRange}
 use Rattle.workspace.specs.declared.Size.{Size}
 use Rattle.workspace.specs.Layout.{Room, verticesOf}
@@ -21,7 +21,7 @@ use Rattle.admission.specs.declared.Query.{Query}
 use Rattle.planner.specs.declared.Standing.{Standing}
 use Rattle.planner.specs.Carried.{Asking, wordsOf, Carries, Stands, RoundOver, RoundEnds, Settling, Settles}
 use Rattle.planner.proofs.Jobs.{job-anchor, job-factors, job-goal, job-schedule}
-use Rattle.planner.proofs.Asked.{anchor-long, goal-in, in-range}
+use Rattle.planner.proofs.Asked.{anchor-long, goal-in, in-range, priced-in}
 
 finished≢due : {m a : ℕ} → Finished ≡ Due m a → ⊥
 finished≢due h = let z : _≡_ {A = ℕ} 0 1 = cc in omega arith
@@ -118,12 +118,14 @@ module _ (z : Size) (q : Query) (anchor schedule : List ℕ) (left : ℕ) (p : P
   pub step-asks :
       (f : Factors) → f ≡ getD (pairs schedule) (p .rounds) (record { w1 = 0; w2 = 0 }) →
       Room z (wordsOf m) × (z .vertices ≤ length anchor) × (q .goal < z .vertices) × (f .w1 ≤ maxFactor) × (f .w2 ≤ maxFactor)
+      × Priced (verticesOf z (wordsOf m))
   step-asks f e = (
     holds-ready z (planEdges c) (h .state .vertices) (wordsOf (c .memory)) (wordsOf m) (h .carries .words) .room,
     anchor-long c z q (h .asking) anchor (h .anchor-is),
     goal-in c z q (h .asking),
     factors-in f e .0,
     factors-in f e .1,
+    priced-in c z q (h .asking) (h .state) p m (h .carries),
   )
 
   -- step 1 finished the round

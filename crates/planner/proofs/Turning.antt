@@ -33,7 +33,7 @@ use Rattle.planner.specs.Plan.{memoryOf}
 use Rattle.planner.specs.Carried.{Asking, wordsOf, Carries, Stands, Settling, Settles}
 use Rattle.planner.specs.Reached.{Given, Reaches, Advancing, Advances}
 use Rattle.planner.proofs.Jobs.{next-few, job-heuristics, job-factors, job-guides, job-schedule, job-pick}
-use Rattle.planner.proofs.Asked.{small, few, sheets-long, in-range, rounds-are}
+use Rattle.planner.proofs.Asked.{small, few, sheets-long, in-range, rounds-are, priced-in}
 use Rattle.planner.proofs.Carrying.{stands-log}
 use Rattle.planner.proofs.Logging.{log-more}
 
@@ -92,6 +92,7 @@ module _ (c : Call) (z : Size) (q : Query) (y : Stand) (ts : List Moment) (s : S
     turn-asks = (
       record {
         ready = holds-ready z (planEdges c) (st .vertices) (wordsOf (c .memory)) (wordsOf l) (carried .words);
+        priced = priced-in c z q a st p l carried;
         sheets = sheets-long c z q a (p .turn) guides′ (carried .turn) (g .sheets-is);
         few = omega (arith, carried .turn, few c z q a);
         small = small c z q a;
@@ -194,17 +195,17 @@ module _ (c : Call) (z : Size) (q : Query) (y : Stand) (ts : List Moment) (s : S
 
       -- step 1 after it, and the log with the turn
       pub reaches-next :
-          (rounds : ℕ) → rounds ≡ length (pairs schedule) → (r : Standing) (route log work : List ℕ) →
+          (rounds : ℕ) → rounds ≡ length (pairs schedule) → (r : Standing) (route log work wide : List ℕ) →
           log ≡ set (l .log) (p .expansions) (choiceWord (choiceOf z f guides′ (wordsOf l) m b (p .turn))) →
-          Settles z q anchor schedule (rounds - next .rounds) next l′ r (memoryOf route [] work) →
-          Reaches c z (advance job y) (ts ++ moments job 1 y) r (memoryOf route log work)
-      reaches-next rounds re r route log work le h =
+          Settles z q anchor schedule (rounds - next .rounds) next l′ r (memoryOf route [] work wide) →
+          Reaches c z (advance job y) (ts ++ moments job 1 y) r (memoryOf route log work wide)
+      reaches-next rounds re r route log work wide le h =
           let i : rounds - next .rounds ≡ length (job .schedule) - after .progress .rounds = left-is rounds re in
-          let o : Stands c z (settle job (rounds - next .rounds) after) r (memoryOf route [] work)
+          let o : Stands c z (settle job (rounds - next .rounds) after) r (memoryOf route [] work wide)
           = h .settles c after a (g .anchor-is) (g .schedule-is) carries-turn i in
           let s′ : settle job (rounds - next .rounds) after ≡ advance job y
           = ap (λ (n : ℕ). settle job n after) i ∙ sym (advance-due job y m b is-due ∙ unfold settled in refl) in
-          let o′ : Stands c z (advance job y) r (memoryOf route [] work) = subst (λ (x : Stand). Stands c z x r (memoryOf route [] work)) s′ o in
+          let o′ : Stands c z (advance job y) r (memoryOf route [] work wide) = subst (λ (x : Stand). Stands c z x r (memoryOf route [] work wide)) s′ o in
           let n : run job 1 y ≡ advance job y = run-suc job 0 y ∙ unfold run in refl in
           let w : advance job y .state .progress .expansions ≡ st .progress .expansions + length (moments job 1 y)
           = ap (λ (x : Stand). x .state .progress .expansions) (sym n) ∙ counts job 1 y in
@@ -261,13 +262,13 @@ module _ (z : Size) (q : Query) (anchor guides′ schedule : List ℕ) (s : Stan
         }
 
     pub advances-due :
-        (r : Standing) (route log work : List ℕ) →
+        (r : Standing) (route log work wide : List ℕ) →
         log ≡ set (l .log) (s .progress .expansions) (choiceWord (choiceOf z f guides′ (wordsOf l) m b (s .progress .turn))) →
-        Settles z q anchor schedule (rounds - next .rounds) next l′ r (memoryOf route [] work) →
-        Advances z q anchor guides′ schedule s l r (memoryOf route log work)
-    advances-due r route log work le h =
+        Settles z q anchor schedule (rounds - next .rounds) next l′ r (memoryOf route [] work wide) →
+        Advances z q anchor guides′ schedule s l r (memoryOf route log work wide)
+    advances-due r route log work wide le h =
         record {
           advances =
               λ c y ts a g k.
-              reaches-next c z q y ts s anchor guides′ schedule l a g k m b e f fe next l′ ne we same rounds re r route log work le h;
+              reaches-next c z q y ts s anchor guides′ schedule l a g k m b e f fe next l′ ne we same rounds re r route log work wide le h;
         }

@@ -30,7 +30,7 @@ pub record Asking (c : Call) (z : Size) (q : Query) : Type 0 where
 
 -- the part of lent memory in which vertices lie
 abbrev pub wordsOf : Memory → Words
-wordsOf m = mem (m .work)
+wordsOf m = mem (m .work) (m .wide)
 
 -- the state s, in the record p and in lent memory (whatever the log holds)
 pub record Carries (c : Call) (z : Size) (s : State) (p : Progress) (m : Memory) : Type 0 where

@@ -7,9 +7,9 @@ use Rattle.search.specs.Call.{Memory, Call}
 use Rattle.search.specs.Outcome.{answer, memoryAfter}
 use Rattle.search.specs.Guarantee.{Guaranteed, AnyRule}
 
--- lent memory of these words
-abbrev pub memoryOf : List ℕ → List ℕ → List ℕ → Memory
-memoryOf route log work = record { route = route; log = log; work = work }
+-- lent memory of these words and numbers
+abbrev pub memoryOf : List ℕ → List ℕ → List ℕ → List ℕ → Memory
+memoryOf route log work wide = record { route = route; log = log; work = work; wide = wide }
 
 -- the call with these arguments, where memory is lent as it is
 abbrev pub callOf : List ℕ → ℕ → ℕ → ℕ → List ℕ → List ℕ → ℕ → List ℕ → ℕ → Memory → Call

@@ -10,6 +10,7 @@ use workspace::Size;
 // Where a turn is due, that turn, and step 1 after it.
 pub fn advance(
     work: &mut [u32],
+    wide: &mut [u64],
     route: &mut [u32],
     log: &mut [u32],
     anchor: &[u32],
@@ -19,8 +20,8 @@ pub fn advance(
     q: Query,
     s: Standing,
 ) -> Standing
-    requires { ⌜ Advancing z q (now anchor) (now guides) (now schedule) s (memoryOf (now route) (now log) (now work)) ⌝ }
-    ensures { λ r. ⌜ Advances z q (now (anchor .entry)) (now (guides .entry)) (now (schedule .entry)) s (memoryOf (now (route .entry)) (now (log .entry)) (now (work .entry))) r (memoryOf (now (route .exit)) (now (log .exit)) (now (work .exit))) ⌝ }
+    requires { ⌜ Advancing z q (now anchor) (now guides) (now schedule) s (memoryOf (now route) (now log) (now work) (now wide)) ⌝ }
+    ensures { λ r. ⌜ Advances z q (now (anchor .entry)) (now (guides .entry)) (now (schedule .entry)) s (memoryOf (now (route .entry)) (now (log .entry)) (now (work .entry)) (now (wide .entry))) r (memoryOf (now (route .exit)) (now (log .exit)) (now (work .exit)) (now (wide .exit))) ⌝ }
 {
     let step = s.step;
     let p = s.progress;
@@ -30,10 +31,22 @@ pub fn advance(
         Step::Finished => s,
         Step::Due(m, a) => {
             let f = schedule::factors(schedule, p.rounds);
-            turn::turn(work, log, guides, z, barred, f, m, a, p.turn, p.expansions);
+            turn::turn(
+                work,
+                wide,
+                log,
+                guides,
+                z,
+                barred,
+                f,
+                m,
+                a,
+                p.turn,
+                p.expansions,
+            );
             let next = progress::after_turn(q.guides, p);
             let left = schedule::rounds(schedule) - next.rounds;
-            rounds::settle(left, work, route, anchor, schedule, z, q, next)
+            rounds::settle(left, work, wide, route, anchor, schedule, z, q, next)
         }
     }
 }

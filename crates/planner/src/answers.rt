@@ -21,11 +21,23 @@ pub fn answer(
     route: &mut [u32],
     log: &mut [u32],
     work: &mut [u32],
+    wide: &mut [u64],
 ) -> Answer
-    requires { ⌜ Admission z q at (now bytes) (now anchor) (now guides) (now schedule) (memoryOf (now route) (now log) (now work)) ⌝ }
-    ensures { λ r. ⌜ Answers z q at (now (bytes .entry)) (now (anchor .entry)) (now (guides .entry)) (now (schedule .entry)) (memoryOf (now (route .entry)) (now (log .entry)) (now (work .entry))) r (memoryOf (now (route .exit)) (now (log .exit)) (now (work .exit))) ⌝ }
+    requires { ⌜ Admission z q at (now bytes) (now anchor) (now guides) (now schedule) (memoryOf (now route) (now log) (now work) (now wide)) ⌝ }
+    ensures { λ r. ⌜ Answers z q at (now (bytes .entry)) (now (anchor .entry)) (now (guides .entry)) (now (schedule .entry)) (memoryOf (now (route .entry)) (now (log .entry)) (now (work .entry)) (now (wide .entry))) r (memoryOf (now (route .exit)) (now (log .exit)) (now (work .exit)) (now (wide .exit))) ⌝ }
 {
-    let first = begin::begin(bytes, work, route, anchor, schedule, z, q, at);
-    let last = running::run(work, route, log, anchor, guides, schedule, z, q, first);
+    let first = begin::begin(bytes, work, wide, route, anchor, schedule, z, q, at);
+    let last = running::run(
+        work,
+        wide,
+        route,
+        log,
+        anchor,
+        guides,
+        schedule,
+        z,
+        q,
+        first,
+    );
     finish::finish(route, schedule, z, last)
 }

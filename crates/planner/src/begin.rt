@@ -13,6 +13,7 @@ use workspace::round_start;
 pub fn begin(
     bytes: &[u8],
     work: &mut [u32],
+    wide: &mut [u64],
     route: &mut [u32],
     anchor: &[u32],
     schedule: &[u32],
@@ -20,12 +21,12 @@ pub fn begin(
     q: Query,
     at: usize,
 ) -> Standing
-    requires { ⌜ Beginning z q (now bytes) (now anchor) (now schedule) at (memoryOf (now route) [] (now work)) ⌝ }
-    ensures { λ r. ⌜ Begins z q (now (bytes .entry)) (now (anchor .entry)) (now (schedule .entry)) at (memoryOf (now (route .entry)) [] (now (work .entry))) r (memoryOf (now (route .exit)) [] (now (work .exit))) ⌝ }
+    requires { ⌜ Beginning z q (now bytes) (now anchor) (now schedule) at (memoryOf (now route) [] (now work) (now wide)) ⌝ }
+    ensures { λ r. ⌜ Begins z q (now (bytes .entry)) (now (anchor .entry)) (now (schedule .entry)) at (memoryOf (now (route .entry)) [] (now (work .entry)) (now (wide .entry))) r (memoryOf (now (route .exit)) [] (now (work .exit)) (now (wide .exit))) ⌝ }
 {
     loader::load_graph(bytes, work, z, at);
-    round_start::at_first(work, z, q.start);
+    round_start::at_first(work, wide, z, q.start);
     let p = progress::at_first(q.guides);
     let left = schedule::rounds(schedule);
-    rounds::settle(left, work, route, anchor, schedule, z, q, p)
+    rounds::settle(left, work, wide, route, anchor, schedule, z, q, p)
 }

@@ -23,7 +23,7 @@ pub struct Standing {
 
 // Plans a route: plan bytes, start and goal, the barred classes (bit k for class k), the anchor heuristic (anchor
 // table), the inadmissible ones (guide sheets) one after another with their count, the schedule W1, W2, W1, W2, ..
-// (empty: the house schedule), the budget (allowance) of turns; route, log and work memory are lent.
+// (empty: the house schedule), the budget (allowance) of turns; route, log, work and wide work memory are lent.
 pub fn plan(
     bytes: &[u8],
     start: u32,
@@ -37,8 +37,9 @@ pub fn plan(
     route: &mut [u32],
     log: &mut [u32],
     work: &mut [u32],
+    wide: &mut [u64],
 ) -> Answer
-    ensures { λ r. ⌜ Planned (callOf (now (bytes .entry)) start goal barred (now (anchor .entry)) (now (guides .entry)) «guide_count» (now (schedule .entry)) budget (memoryOf (now (route .entry)) (now (log .entry)) (now (work .entry)))) r (memoryOf (now (route .exit)) (now (log .exit)) (now (work .exit))) ⌝ }
+    ensures { λ r. ⌜ Planned (callOf (now (bytes .entry)) start goal barred (now (anchor .entry)) (now (guides .entry)) «guide_count» (now (schedule .entry)) budget (memoryOf (now (route .entry)) (now (log .entry)) (now (work .entry)) (now (wide .entry)))) r (memoryOf (now (route .exit)) (now (log .exit)) (now (work .exit)) (now (wide .exit))) ⌝ }
 {
     let house = schedule::house();
     let in_force = schedule::in_force(schedule, &house);
@@ -52,12 +53,25 @@ pub fn plan(
     let lengths = Lengths {
         route: route.len(),
         work: work.len(),
+        wide: wide.len(),
     };
     match admission::decide(bytes, q, anchor, guides, in_force, lengths) {
         Verdict::Refused(n, p) => Answer::Refused(n, p),
         Verdict::Admitted(vertices, edges, at) => {
             let z = Size { vertices, edges };
-            answers::answer(bytes, anchor, guides, in_force, z, q, at, route, log, work)
+            answers::answer(
+                bytes,
+                anchor,
+                guides,
+                in_force,
+                z,
+                q,
+                at,
+                route,
+                log,
+                work,
+                wide,
+            )
         }
     }
 }

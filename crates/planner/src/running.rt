@@ -26,6 +26,7 @@ fn goes_on(s: Standing, left: u32) -> bool
 // Turns while one is due, at most as many as the budget.
 pub fn run(
     work: &mut [u32],
+    wide: &mut [u64],
     route: &mut [u32],
     log: &mut [u32],
     anchor: &[u32],
@@ -35,14 +36,25 @@ pub fn run(
     q: Query,
     s: Standing,
 ) -> Standing
-    requires { ⌜ Running z q (now anchor) (now guides) (now schedule) s (memoryOf (now route) (now log) (now work)) ⌝ }
-    ensures { λ r. ⌜ Runs z q (now (anchor .entry)) (now (guides .entry)) (now (schedule .entry)) (q .budget) s (memoryOf (now (route .entry)) (now (log .entry)) (now (work .entry))) r (memoryOf (now (route .exit)) (now (log .exit)) (now (work .exit))) ⌝ }
+    requires { ⌜ Running z q (now anchor) (now guides) (now schedule) s (memoryOf (now route) (now log) (now work) (now wide)) ⌝ }
+    ensures { λ r. ⌜ Runs z q (now (anchor .entry)) (now (guides .entry)) (now (schedule .entry)) (q .budget) s (memoryOf (now (route .entry)) (now (log .entry)) (now (work .entry)) (now (wide .entry))) r (memoryOf (now (route .exit)) (now (log .exit)) (now (work .exit)) (now (wide .exit))) ⌝ }
 {
     let mut stand = s;
     let mut left = q.budget;
     let mut going = goes_on(stand, left);
     while going {
-        stand = advance::advance(work, route, log, anchor, guides, schedule, z, q, stand);
+        stand = advance::advance(
+            work,
+            wide,
+            route,
+            log,
+            anchor,
+            guides,
+            schedule,
+            z,
+            q,
+            stand,
+        );
         left -= 1;
         going = goes_on(stand, left);
     }

@@ -24,8 +24,8 @@ enum-known-vertices c = search needs
 
 answer-requires : tie.Need-answer-requires
 answer-requires c κs =
-    let k = c .before .before .before .before .before .before in
-    lent-here _ _ _ _ _ _ _ _ _ _ _ _ (k .before .in-force .ensures) (k .before .before .before .house .ensures) _ (k .decide .ensures) _ _ _ (c .before .before .before .before .vertices .given .1)
+    let k = c .before .before .before .before .before .before .before in
+    lent-here _ _ _ _ _ _ _ _ _ _ _ _ (k .before .in-force .ensures) (k .before .before .before .house .ensures) _ (k .decide .ensures) _ _ _ (c .before .before .before .before .before .vertices .given .1)
 
 returns : tie.Need-returns
 returns c =
@@ -41,11 +41,14 @@ same-length-2 c = search needs
 same-length-3 : tie.Need-same-length-3
 same-length-3 c = search needs
 
+same-length-4 : tie.Need-same-length-4
+same-length-4 c = search needs
+
 returns-2 : tie.Need-returns-2
 returns-2 c =
-    let f = c .before .before .before .before .before .before in
-    let k = f .before .before .before .before .before .before .before in
-    planned _ _ _ _ _ _ _ _ _ _ _ _ (k .before .in-force .ensures) (k .before .before .before .house .ensures) _ (k .decide .ensures) _ _ _ (f .before .before .before .before .before .vertices .given .1) _ _ (f .answer .ensures)
+    let f = c .before .before .before .before .before .before .before .before in
+    let k = f .before .before .before .before .before .before .before .before in
+    planned _ _ _ _ _ _ _ _ _ _ _ _ (k .before .in-force .ensures) (k .before .before .before .house .ensures) _ (k .decide .ensures) _ _ _ (f .before .before .before .before .before .before .vertices .given .1) _ _ (f .answer .ensures)
 
 pub plan-spec : {M : Type 1} → statement M
 plan-spec =
@@ -61,5 +64,5 @@ plan-spec =
     returns
     same-length
     same-length-2
-    same-length-3
+    same-length-3 same-length-4
     returns-2)

@@ -9,29 +9,29 @@ use Rattle.planner.proofs.running.run.Statement.{statement}
 use Rattle.planner.proofs.running.run.Tie as tie
 
 abbrev Inv-loop : tie.InvT-loop
-Inv-loop work₀ route₀ log₀ anchor guides schedule z q stand₀ left₀ going₀ work route log stand left going =
-    Ran z q anchor guides schedule (q .budget) stand₀ (memoryOf route₀ log₀ work₀) left going stand (memoryOf route log work)
-    × (length work ≡ length work₀) × (length route ≡ length route₀) × (length log ≡ length log₀)
+Inv-loop work₀ wide₀ route₀ log₀ anchor guides schedule z q stand₀ left₀ going₀ work wide route log stand left going =
+    Ran z q anchor guides schedule (q .budget) stand₀ (memoryOf route₀ log₀ work₀ wide₀) left going stand (memoryOf route log work wide)
+    × (length work ≡ length work₀) × (length wide ≡ length wide₀) × (length route ≡ length route₀) × (length log ≡ length log₀)
 
 abbrev μ-loop : tie.MeasureT-loop
-μ-loop work₀ route₀ log₀ anchor guides schedule z q stand₀ left₀ going₀ work route log stand left going =
+μ-loop work₀ wide₀ route₀ log₀ anchor guides schedule z q stand₀ left₀ going₀ work wide route log stand left going =
     left
 
 goes-on-requires : tie.Need-goes-on-requires Inv-loop μ-loop
 goes-on-requires c κs = search needs
 
 loop-holds : tie.Need-loop-holds Inv-loop μ-loop
-loop-holds c = (ran-none _ _ _ _ _ _ _ _ _ (c .goes-on .ensures), refl, refl, refl)
+loop-holds c = (ran-none _ _ _ _ _ _ _ _ _ (c .goes-on .ensures), refl, refl, refl, refl)
 
 advance-requires : tie.Need-advance-requires Inv-loop μ-loop
 advance-requires c κs =
-    let k = c .before .before .before .before in
-    let a = k .before .before .before .before .before .before .before .before in
-    advancing _ _ _ _ _ _ _ _ _ _ _ (ran-going (c .before .before .before .loop-test .taken) (k .loop .inv .0)) (a .pre) (omega (arith, a))
+    let k = c .before .before .before .before .before in
+    let a = k .before .before .before .before .before .before .before .before .before in
+    advancing _ _ _ _ _ _ _ _ _ _ _ (ran-going (c .before .before .before .before .loop-test .taken) (k .loop .inv .0)) (a .pre) (omega (arith, a))
 
 sub-left : tie.Need-sub-left Inv-loop μ-loop
 sub-left c =
-    let k = c .before .before .before .before .before .before .before .before .before in
+    let k = c .before .before .before .before .before .before .before .before .before .before .before .before in
     left-some _ _ _ _ _ _ _ _ _ _ _ (ran-going (k .before .loop-test .taken) (k .before .before .loop .inv .0))
 
 goes-on-requires-2 : tie.Need-goes-on-requires-2 Inv-loop μ-loop
@@ -39,14 +39,15 @@ goes-on-requires-2 c κs = search needs
 
 loop-less : tie.Need-loop-less Inv-loop μ-loop
 loop-less c =
-    let k = c .before .before .before .before .before .before .before .before .before in
+    let k = c .before .before .before .before .before .before .before .before .before .before .before .before in
     omega (arith, left-some _ _ _ _ _ _ _ _ _ _ _ (ran-going (k .before .before .loop-test .taken) (k .before .before .before .loop .inv .0)))
 
 loop-again : tie.Need-loop-again Inv-loop μ-loop
 loop-again c =
-    let k = c .before .before .before .before .before .before .before in
-    let i = k .before .before .before .before .before .loop .inv in (
-      ran-more _ _ _ _ _ _ _ _ _ _ _ (ran-going (k .before .before .before .before .loop-test .taken) (i .0)) _ _ _ (k .advance .ensures) (c .goes-on2 .ensures),
+    let k = c .before .before .before .before .before .before .before .before .before in
+    let i = k .before .before .before .before .before .before .loop .inv in (
+      ran-more _ _ _ _ _ _ _ _ _ _ _ (ran-going (k .before .before .before .before .before .loop-test .taken) (i .0)) _ _ _ (k .advance .ensures) (c .goes-on2 .ensures),
+      search needs,
       search needs,
       search needs,
       search needs,
@@ -60,6 +61,9 @@ same-length-2 c = c .before .loop .inv .2
 
 same-length-3 : tie.Need-same-length-3 Inv-loop μ-loop
 same-length-3 c = c .before .loop .inv .3
+
+same-length-4 : tie.Need-same-length-4 Inv-loop μ-loop
+same-length-4 c = c .before .loop .inv .4
 
 returns : tie.Need-returns Inv-loop μ-loop
 returns c = ran-all _ _ _ _ _ _ _ _ _ _ _ (ran-stopped (c .loop-test .left) (c .before .loop .inv .0))
@@ -79,5 +83,5 @@ run-spec =
     loop-again
     same-length
     same-length-2
-    same-length-3
+    same-length-3 same-length-4
     returns)
