@@ -10,7 +10,7 @@ use job::Front;
 use job_reader::storing;
 
 // Words of lent memory: a schedule of 16 rounds, an anchor table and 8 guide sheets of 256 numbers; route
-// memory, a log, and work memory for 256 vertices and 2,048 edges.
+// memory, a log, work memory for 256 vertices and 2,048 edges, and the numbers of the wide work memory.
 const FACTORS: usize = 32;
 
 const TABLES: usize = 2304;
@@ -19,7 +19,9 @@ const ROUTE: usize = 256;
 
 const LOG: usize = 8192;
 
-const WORK: usize = 7425;
+const WORK: usize = 6913;
+
+const WIDE: usize = 512;
 
 // The planner call, and what it hands over printed.
 fn plan_call(
@@ -35,6 +37,7 @@ fn plan_call(
     let mut route = [0u32; ROUTE];
     let mut log = [0u32; LOG];
     let mut work = [0u32; WORK];
+    let mut wide = [0u64; WIDE];
     let ends = front.ends;
     let answer = planner::plan(
         plan,
@@ -49,6 +52,7 @@ fn plan_call(
         &mut route,
         &mut log,
         &mut work,
+        &mut wide,
     );
     printing::put_answer(out, answer, &route, &log)
 }

@@ -1,4 +1,4 @@
--- The table of document 01's (p) cases, the jobs that tell its rules from others, and the cases of barred classes.
+-- The table of document 01's (p) cases, the jobs that tell its rules from others, and the cases of barred classes and of costs.
 use mathlib.Core.Path.{refl}
 use Rattle.leb128.specs.Number.{planGroups, more, answered, read, encode}
 use Rattle.leb128.specs.Number
@@ -11,19 +11,20 @@ use Rattle.search.specs.Job.{cyclic, guides, heuristic, factors, house, unreach
 use Rattle.search.specs.Turn.{key, offered, better, leastFrom, least, stepOne, candidate, choose, marked, lowered, relax, relaxAll, expand}
 use Rattle.search.specs.Rounds.{firstTurn, nextTurn, turned, ended, inHand, step, choice, turn, trace, traced, improves, costOr, reopened, endRound, onFinished, settle, settled, begin, onDue, advance, run, moments, search}
 use Rattle.search.specs.Call.{inForce, scheduleOf, outOfRange, rising, pairs, row, first, endsRow, tablesRow, scheduleRow, memoryRow, goalRow, edgesRow, faultIn, faultOf, planEdges, tables, jobIn, jobFrom, jobOf}
-use Rattle.search.specs.Outcome.{bound, summary, cutShort, answerAt, answerOf, figures, routeWords, routeAfter, logWord, logAfter, edgesBelow, firstEdges, markWord, vertexWords, workWords, outcome, answerIn, answer, memoryIn, memoryAfter}
+use Rattle.search.specs.Outcome.{bound, summary, cutShort, answerAt, answerOf, figures, routeWords, routeAfter, logWord, logAfter, edgesBelow, firstEdges, markWord, twoEach, workWords, outcome, answerIn, answer, memoryIn, memoryAfter}
 use Rattle.job.proofs.JobA.{prints-A}
 use Rattle.cases.specs.Cases.{Cases}
 use Rattle.cases.specs.Apart.{Apart}
 use Rattle.cases.specs.Barred.{Barred}
+use Rattle.cases.specs.Costs.{Costs}
 use Rattle.cases.proofs.Schedules.{house-schedule}
 use Rattle.cases.proofs.Ends.{plan-refused}
 use Rattle.search.specs.Guarantee.{withPick}
 use Rattle.cases.proofs.TwoVertices.{two-vertices}
 use Rattle.cases.proofs.StartIsGoal.{start-is-goal}
 
-computed : Cases × Apart × Barred
-unfolding Number.decode more answered read planGroups encode vertexCountRows edgeCountRows tailRows headRows costRows classRows through throughAll takeNumber taking leastAfter past nextEdge before onward edgesFrom header afterHeader decode sizes over roomFor readAs edgesIn readAnswer listAfter edgesOf listRows edgeRows edgesFault writeFault edgeBytes edgesBytes bytesOf outAfter edgeCost onEdge costFrom routeCost barredBy permitted cyclic guides heuristic factors house unreached noPred routeEnd fresh origin atFirst at key offered better leastFrom least stepOne candidate choose marked lowered relax relaxAll expand firstTurn nextTurn turned ended inHand step choice turn trace traced improves costOr reopened endRound onFinished settle settled begin onDue advance run moments search inForce scheduleOf outOfRange rising pairs row first endsRow tablesRow scheduleRow memoryRow goalRow edgesRow faultIn faultOf planEdges tables jobIn jobFrom jobOf bound summary cutShort answerAt answerOf figures routeWords routeAfter logWord logAfter edgesBelow firstEdges markWord vertexWords workWords outcome answerIn answer memoryIn memoryAfter withPick
+computed : Cases × Apart × Barred × Costs
+unfolding Number.decode more answered read planGroups encode vertexCountRows edgeCountRows tailRows headRows costRows classRows through throughAll takeNumber taking leastAfter past nextEdge before onward edgesFrom header afterHeader decode sizes over roomFor readAs edgesIn readAnswer listAfter edgesOf listRows edgeRows edgesFault writeFault edgeBytes edgesBytes bytesOf outAfter edgeCost onEdge costFrom routeCost barredBy permitted cyclic guides heuristic factors house unreached noPred routeEnd fresh origin atFirst at key offered better leastFrom least stepOne candidate choose marked lowered relax relaxAll expand firstTurn nextTurn turned ended inHand step choice turn trace traced improves costOr reopened endRound onFinished settle settled begin onDue advance run moments search inForce scheduleOf outOfRange rising pairs row first endsRow tablesRow scheduleRow memoryRow goalRow edgesRow faultIn faultOf planEdges tables jobIn jobFrom jobOf bound summary cutShort answerAt answerOf figures routeWords routeAfter logWord logAfter edgesBelow firstEdges markWord twoEach workWords outcome answerIn answer memoryIn memoryAfter withPick
 computed = (
   record {
     job-A = record { says = refl; leaves = refl };
@@ -62,6 +63,26 @@ computed = (
     classes-unequal = refl;
     bytes-written = refl;
   },
+  record {
+    above-a-million = refl;
+    dearest = refl;
+    too-dear = plan-refused _ _ _ refl;
+    five-groups = plan-refused _ _ _ refl;
+    four-not-shortest = plan-refused _ _ _ refl;
+    four-as-V = plan-refused _ _ _ refl;
+    four-as-M = plan-refused _ _ _ refl;
+    four-as-tail = plan-refused _ _ _ refl;
+    four-as-head = plan-refused _ _ _ refl;
+    four-as-class = plan-refused _ _ _ refl;
+    dearest-written = refl;
+    dearest-passes = refl;
+    too-dear-written = refl;
+    enough = refl;
+    short-route = refl;
+    short-work = refl;
+    short-wide = refl;
+    dear-route = record { says = refl; leaves = refl };
+  },
 )
 
 pub all-cases : Cases
@@ -72,3 +93,6 @@ apart = computed .1
 
 pub barred : Barred
 barred = computed .2
+
+pub costs : Costs
+costs = computed .3

@@ -17,7 +17,7 @@ use Rattle.search.specs.Job.{State, Job, cyclic, guides, heuristic, factors, ho
 use Rattle.search.specs.Turn.{key, offered, better, leastFrom, least, stepOne, candidate, choose, marked, relaxAll, expand}
 use Rattle.search.specs.Rounds.{Stand, Moment, firstTurn, nextTurn, turned, inHand, step, choice, turn, onFinished, begin, onDue, advance, run, moments, search}
 use Rattle.search.specs.Call.{Memory, Call, inForce, scheduleOf, pairs, faultOf, planEdges, tables, jobIn, jobFrom, jobOf}
-use Rattle.search.specs.Outcome.{answerAt, answerOf, figures, routeAfter, logWord, logAfter, edgesBelow, firstEdges, markWord, vertexWords, workWords, outcome, answerIn, memoryIn}
+use Rattle.search.specs.Outcome.{answerAt, answerOf, figures, routeAfter, logWord, logAfter, edgesBelow, firstEdges, markWord, twoEach, workWords, outcome, answerIn, memoryIn}
 use Rattle.search.specs.Admitted.{Schedule}
 use Rattle.search.proofs.Admitted.{clear-none}
 use Rattle.search.proofs.Runs.{run-over, moments-over, stuck≢due}
@@ -39,6 +39,7 @@ not-refused b k ws y n m e =
       schedule = in-force ws y;
       route-room = e .route;
       work-room = e .work;
+      wide-room = e .wide;
       goal-zero = refl;
       rule = λ d q. absurd (List·Memᴰ·not-nil q);
     })
@@ -106,7 +107,7 @@ module _ (n : ℕ) (m : Memory) (f : Factors) (fs : List Factors) (c : Call) (e 
   says = rw (e, b, runs f fs n)
 
   leaves : memoryIn c none ≡ twoVerticesAfter m
-  unfolding planEdges memoryIn outcome search routeAfter logAfter logWord workWords firstEdges edgesBelow vertexWords markWord marked origin fresh unreached noPred
+  unfolding planEdges memoryIn outcome search routeAfter logAfter logWord workWords firstEdges edgesBelow twoEach markWord marked origin fresh unreached noPred
   leaves = rw (e, b, es, lent, runs f fs n, turned-once f fs n)
 
 rounds-of :

@@ -9,7 +9,7 @@ use Rattle.search.specs.Rounds.{search}
 use Rattle.search.specs.Call.{Call, jobOf}
 use Rattle.search.specs.Outcome.{answerOf, figures, logWord}
 use Rattle.search.specs.Guarantee.{withPick}
-use Rattle.cases.specs.Cases.{HandsOver, routed, unfinishedAfter, unset, old}
+use Rattle.cases.specs.Cases.{HandsOver, routed, unfinishedAfter, unset, never, old}
 
 -- lanes 0 to 1 at 0, 1 to 2 at 3, 1 to 3 at 5, 1 to 5 at 2, 2 to 4 at 1, 3 to 4 at 1, 5 to 3 at 1, of classes 1 to 7; from 0 to 4, class 0
 -- barred, which no lane has; zero anchor table, three guides
@@ -28,7 +28,7 @@ jobB =
       count = 3;
       schedule = 100 ∷ 250 ∷ 100 ∷ 100 ∷ [];
       budget = 100;
-      memory = record { route = replicate 6 old; log = replicate 7 old; work = replicate 52 old };
+      memory = record { route = replicate 6 old; log = replicate 7 old; work = replicate 40 old; wide = replicate 12 old };
     }
 
 -- the same job, where guide 3 has every turn
@@ -50,15 +50,19 @@ jobC budget =
       count = 0;
       schedule = 300 ∷ 500 ∷ 150 ∷ 100 ∷ [];
       budget = budget;
-      memory = record { route = replicate 6 old; log = replicate 7 old; work = replicate 42 old };
+      memory = record { route = replicate 6 old; log = replicate 7 old; work = replicate 32 old; wide = replicate 11 old };
     }
 
--- its work memory, with the words of vertices 0 to 4
+-- its work memory, with predecessor and marks of vertices 0 to 4
 abbrev pub workC : List ℕ → List ℕ → List ℕ → List ℕ → List ℕ → List ℕ
 workC p q r s t =
     (0 ∷ 2 ∷ 3 ∷ 4 ∷ 5 ∷ 5 ∷ [])
     ++ (1 ∷ 2 ∷ 3 ∷ 1 ∷ 4 ∷ []) ++ (3 ∷ 0 ∷ 0 ∷ 1 ∷ 2 ∷ []) ++ (0 ∷ 0 ∷ 0 ∷ 0 ∷ 0 ∷ [])
     ++ p ++ q ++ r ++ s ++ t ++ (old ∷ [])
+
+-- its wide work memory, with their costs
+abbrev pub wideC : List ℕ → List ℕ → List ℕ → List ℕ → List ℕ → List ℕ
+wideC p q r s t = p ++ q ++ r ++ s ++ t ++ (old ∷ [])
 
 -- a round with W1 = W2
 abbrev pub alike : ℕ → Factors
@@ -87,12 +91,8 @@ pub record Apart : Type 0 where
             ++ (1 ∷ 2 ∷ 3 ∷ 5 ∷ 4 ∷ 4 ∷ 3 ∷ [])
             ++ (0 ∷ 3 ∷ 5 ∷ 2 ∷ 1 ∷ 1 ∷ 1 ∷ [])
             ++ (1 ∷ 2 ∷ 3 ∷ 4 ∷ 5 ∷ 6 ∷ 7 ∷ [])
-            ++ (0 ∷ 0 ∷ unset ∷ 0 ∷ [])
-            ++ (0 ∷ 0 ∷ 0 ∷ 0 ∷ [])
-            ++ (3 ∷ 3 ∷ 1 ∷ 2 ∷ [])
-            ++ (3 ∷ 3 ∷ 5 ∷ 1 ∷ [])
-            ++ (4 ∷ unset ∷ 2 ∷ 4 ∷ [])
-            ++ (2 ∷ 2 ∷ 1 ∷ 0 ∷ []);
+            ++ (unset ∷ 0 ∷ []) ++ (0 ∷ 0 ∷ []) ++ (1 ∷ 2 ∷ []) ++ (5 ∷ 1 ∷ []) ++ (2 ∷ 4 ∷ []) ++ (1 ∷ 0 ∷ []);
+        wide = (0 ∷ 0 ∷ []) ++ (0 ∷ 0 ∷ []) ++ (3 ∷ 3 ∷ []) ++ (3 ∷ 3 ∷ []) ++ (4 ∷ never ∷ []) ++ (2 ∷ 2 ∷ []);
       })
   -- turn 3 finds vertex 1, which has the anchor mark, at a lower cost: it is held, and the round goes on without it
   pub job-C-at-3 :
@@ -100,9 +100,8 @@ pub record Apart : Type 0 where
       (record {
         route = replicate 6 old;
         log = 0 ∷ 1 ∷ 2 ∷ old ∷ old ∷ old ∷ old ∷ [];
-        work =
-            workC (0 ∷ 0 ∷ unset ∷ 2 ∷ []) (1 ∷ 3 ∷ 2 ∷ 10 ∷ []) (0 ∷ 0 ∷ 0 ∷ 2 ∷ []) (3 ∷ unset ∷ 1 ∷ 4 ∷ [])
-            (unset ∷ unset ∷ unset ∷ 0 ∷ []);
+        work = workC (unset ∷ 2 ∷ []) (2 ∷ 10 ∷ []) (0 ∷ 2 ∷ []) (1 ∷ 4 ∷ []) (unset ∷ 0 ∷ []);
+        wide = wideC (0 ∷ 0 ∷ []) (1 ∷ 3 ∷ []) (0 ∷ 0 ∷ []) (3 ∷ never ∷ []) (never ∷ never ∷ []);
       })
   -- round 1 ends: the trace 0 2 1 3 4 costs 3, and g(goal) is 5; at round 2's beginning vertex 1 is open
   pub job-C-at-4 :
@@ -110,9 +109,8 @@ pub record Apart : Type 0 where
       (record {
         route = 0 ∷ 2 ∷ 1 ∷ 3 ∷ 4 ∷ old ∷ [];
         log = 0 ∷ 1 ∷ 2 ∷ 3 ∷ old ∷ old ∷ old ∷ [];
-        work =
-            workC (0 ∷ 0 ∷ unset ∷ 0 ∷ []) (1 ∷ 3 ∷ 2 ∷ 4 ∷ []) (0 ∷ 0 ∷ 0 ∷ 0 ∷ []) (3 ∷ 3 ∷ 1 ∷ 0 ∷ [])
-            (5 ∷ unset ∷ 3 ∷ 4 ∷ []);
+        work = workC (unset ∷ 0 ∷ []) (2 ∷ 4 ∷ []) (0 ∷ 0 ∷ []) (1 ∷ 0 ∷ []) (3 ∷ 4 ∷ []);
+        wide = wideC (0 ∷ 0 ∷ []) (1 ∷ 3 ∷ []) (0 ∷ 0 ∷ []) (3 ∷ 3 ∷ []) (5 ∷ never ∷ []);
       })
   -- round 2 takes vertex 1 up again, then 3
   pub job-C :
@@ -120,9 +118,8 @@ pub record Apart : Type 0 where
       (record {
         route = 0 ∷ 2 ∷ 1 ∷ 3 ∷ 4 ∷ old ∷ [];
         log = 0 ∷ 1 ∷ 2 ∷ 3 ∷ 1 ∷ 3 ∷ old ∷ [];
-        work =
-            workC (0 ∷ 0 ∷ unset ∷ 0 ∷ []) (1 ∷ 1 ∷ 2 ∷ 2 ∷ []) (0 ∷ 0 ∷ 0 ∷ 0 ∷ []) (1 ∷ 1 ∷ 1 ∷ 2 ∷ [])
-            (3 ∷ unset ∷ 3 ∷ 4 ∷ []);
+        work = workC (unset ∷ 0 ∷ []) (2 ∷ 2 ∷ []) (0 ∷ 0 ∷ []) (1 ∷ 2 ∷ []) (3 ∷ 4 ∷ []);
+        wide = wideC (0 ∷ 0 ∷ []) (1 ∷ 1 ∷ []) (0 ∷ 0 ∷ []) (1 ∷ 1 ∷ []) (3 ∷ never ∷ []);
       })
   -- under another rule for whose turn it is, what `AnyRule` speaks of, job B has other turns
   pub guide-3 : map logWord (search jobB3 100 .history) ≡ 196608 ∷ 196609 ∷ 196611 ∷ 196613 ∷ 196611 ∷ 2 ∷ []

@@ -9,15 +9,18 @@ use Rattle.graph.specs.declared.PlanWritten.the-variants.{Count}
 use Rattle.graph.specs.Lists.{classOf, readAnswer, listAfter, Fault, fault, writeFault, outAfter}
 use Rattle.search.specs.Call.{Call}
 use Rattle.job.specs.JobA.{planWith, planA}
-use Rattle.cases.specs.Cases.{HandsOver, routed, noRouteAfter, refusedAt, PlanRefused, old, unset, lent, callOn, anchorA, workWith}
+use Rattle.cases.specs.Cases.{HandsOver, routed, noRouteAfter, refusedAt, PlanRefused, old, unset, never, lent, callOn, anchorA, workWith, wideA}
 
 -- job A where lane 0→1 has class 1, and this barred number
 abbrev pub rampA : ℕ → Call
 rampA barred = callOn (planWith 0x01) barred anchorA 100
 
--- a vertex that no walk has reached
+-- a vertex that no walk has reached: in work memory, and in the wide one
+abbrev pub unlinked : List ℕ
+unlinked = unset ∷ 0 ∷ []
+
 abbrev pub unreached : List ℕ
-unreached = unset ∷ unset ∷ unset ∷ 0 ∷ []
+unreached = never ∷ never ∷ []
 
 -- the writer's fault where one lane, of one vertex, has this cost and class
 abbrev pub written : ℕ → ℕ → Fault
@@ -44,7 +47,8 @@ pub record Barred : Type 0 where
       (record {
         route = 0 ∷ 2 ∷ 3 ∷ unset ∷ old ∷ [];
         log = 65536 ∷ 65538 ∷ old ∷ old ∷ old ∷ [];
-        work = workWith (1 ∷ 0 ∷ 0 ∷ 0 ∷ []) (0 ∷ 0 ∷ unset ∷ 0 ∷ []) unreached (4 ∷ 4 ∷ 0 ∷ 0 ∷ []) (7 ∷ unset ∷ 2 ∷ 4 ∷ []);
+        work = workWith (1 ∷ 0 ∷ 0 ∷ 0 ∷ []) (unset ∷ 0 ∷ []) unlinked (0 ∷ 0 ∷ []) (2 ∷ 4 ∷ []);
+        wide = wideA (0 ∷ 0 ∷ []) unreached (4 ∷ 4 ∷ []) (7 ∷ never ∷ []);
       })
   -- classes 0 and 1 barred, and so every lane: no route, 1 turn
   pub all-barred :
@@ -52,7 +56,8 @@ pub record Barred : Type 0 where
       (record {
         route = replicate 5 old;
         log = 65536 ∷ old ∷ old ∷ old ∷ old ∷ [];
-        work = workWith (1 ∷ 0 ∷ 0 ∷ 0 ∷ []) (0 ∷ 0 ∷ unset ∷ 1 ∷ []) unreached unreached unreached;
+        work = workWith (1 ∷ 0 ∷ 0 ∷ 0 ∷ []) (unset ∷ 1 ∷ []) unlinked unlinked unlinked;
+        wide = wideA (0 ∷ 0 ∷ []) unreached unreached unreached;
       })
   -- a barred lane that breaks the anchor rule: 13 at 0
   pub barred-breaks-rule : HandsOver (callOn (planWith 0x01) 2 (7 ∷ 5 ∷ 3 ∷ 0 ∷ []) 100) (refusedAt 13 0) lent
@@ -61,8 +66,8 @@ pub record Barred : Type 0 where
   pub barred-255 : HandsOver (callOn planA 255 [] 100) (refusedAt 9 0) lent
   -- a class above 7: 15 at its first byte; after 5 where the cost is too large too
   pub class-8 : PlanRefused (planWith 0x08) 15 5
-  pub class-8-written : written 1000000 8 ≡ fault 15 0
-  pub cost-before-class : written 1000001 8 ≡ fault 5 0
+  pub class-8-written : written 16000000 8 ≡ fault 15 0
+  pub cost-before-class : written 16000001 8 ≡ fault 5 0
   -- read into lists: four of M words are enough, and 11 where one is shorter; the classes, and the rest of their list as it was
   pub read-exact : readInto 4 4 4 4 ≡ Sizes 4 4
   pub read-short :

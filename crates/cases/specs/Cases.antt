@@ -1,4 +1,4 @@
--- The cases that document 01 marks (p), one row each in one table, with classes and barred numbers as document 02 (E1) has them. Proved in proofs/Cases.antt.
+-- The cases that document 01 marks (p), one row each in one table, with classes and barred numbers as document 02 (E1) has them, and with both work memories (E10). Proved in proofs/Cases.antt.
 use Prim.Native.Nat.{ℕ, _+_, _-_, _*_, _≤_}
 use mathlib.Core.Path.{_≡_}
 use mathlib.Core.List.{List, [], _∷_, _++_}
@@ -10,7 +10,7 @@ use Rattle.graph.specs.Lists.{over, readAnswer}
 use Rattle.search.specs.Job.{Job, factors, routeEnd, atFirst}
 use Rattle.search.specs.Call.{Memory, Call, planEdges, jobOf}
 use Rattle.search.specs.Admitted.{Schedule, Admitted}
-use Rattle.search.specs.Outcome.{Figures, route, noRoute, unfinished, refused, figures, workWords, answer, memoryAfter}
+use Rattle.search.specs.Outcome.{Figures, route, noRoute, unfinished, refused, figures, workWords, wideWords, answer, memoryAfter}
 use Rattle.job.specs.JobA.{planA, PrintsA}
 
 -- ---- what a call hands over
@@ -47,17 +47,21 @@ pub record PlanRefused (bytes : List ℕ) (n p : ℕ) : Type 0 where
 abbrev pub old : ℕ
 old = 7
 
--- not reached, never expanded, no predecessor; past the route's end
+-- no predecessor; past the route's end
 abbrev pub unset : ℕ
 unset = 4294967295
 
--- lent memory: in each a word more than job A needs
-abbrev pub lent : Memory
-lent = record { route = replicate 5 old; log = replicate 5 old; work = replicate 34 old }
+-- not reached, never expanded
+abbrev pub never : ℕ
+never = 18446744073709551615
 
--- job A with this plan, barred number, anchor table and allowance
-abbrev pub callOn : List ℕ → ℕ → List ℕ → ℕ → Call
-callOn plan barred anchor budget =
+-- lent memory: in each a word or number more than job A needs
+abbrev pub lent : Memory
+lent = record { route = replicate 5 old; log = replicate 5 old; work = replicate 26 old; wide = replicate 9 old }
+
+-- job A with this memory, plan, barred number, anchor table and allowance
+abbrev pub callIn : Memory → List ℕ → ℕ → List ℕ → ℕ → Call
+callIn memory plan barred anchor budget =
     record {
       bytes = plan;
       start = 0;
@@ -68,8 +72,11 @@ callOn plan barred anchor budget =
       count = 1;
       schedule = 200 ∷ 200 ∷ 100 ∷ 100 ∷ [];
       budget = budget;
-      memory = lent;
+      memory = memory;
     }
+
+abbrev pub callOn : List ℕ → ℕ → List ℕ → ℕ → Call
+callOn plan barred anchor budget = callIn lent plan barred anchor budget
 
 -- plan A, no class barred
 abbrev pub callA : List ℕ → ℕ → Call
@@ -81,13 +88,17 @@ anchorA = 6 ∷ 5 ∷ 3 ∷ 0 ∷ []
 abbrev pub jobA : ℕ → Call
 jobA budget = callA anchorA budget
 
--- work memory: first edge numbers (the last is M), heads, costs, these classes, then the words of vertices 0 to 3, and one word as it was
+-- work memory: first edge numbers (the last is M), heads, costs, these classes, then predecessor and marks of vertices 0 to 3, and one word as it was
 abbrev pub workWith : List ℕ → List ℕ → List ℕ → List ℕ → List ℕ → List ℕ
 workWith classes p q r s =
     (0 ∷ 2 ∷ 3 ∷ 4 ∷ 4 ∷ []) ++ (1 ∷ 2 ∷ 2 ∷ 3 ∷ []) ++ (1 ∷ 4 ∷ 2 ∷ 3 ∷ []) ++ classes ++ p ++ q ++ r ++ s ++ (old ∷ [])
 
 abbrev pub workA : List ℕ → List ℕ → List ℕ → List ℕ → List ℕ
 workA p q r s = workWith (0 ∷ 0 ∷ 0 ∷ 0 ∷ []) p q r s
+
+-- the wide work memory: g and cost when last expanded of vertices 0 to 3, and one number as it was
+abbrev pub wideA : List ℕ → List ℕ → List ℕ → List ℕ → List ℕ
+wideA p q r s = p ++ q ++ r ++ s ++ (old ∷ [])
 
 -- ---- `02 00`, from 0 to 1
 
@@ -107,18 +118,20 @@ twoVertices barred schedule budget memory =
       memory = memory;
     }
 
--- lent memory that is large enough: V words of route memory, 5V+1+3M of work memory
+-- lent memory that is large enough: V words of route memory, 3V+1+3M of work memory, 2V numbers of the wide one
 pub record Enough (v m : ℕ) (memory : Memory) : Type 0 where
   pub route : v ≤ length (memory .route)
-  pub work : 5 * v + 1 + 3 * m ≤ length (memory .work)
+  pub work : 3 * v + 1 + 3 * m ≤ length (memory .work)
+  pub wide : 2 * v ≤ length (memory .wide)
 
--- memory after it: route memory as it was, one turn logged (vertex 0, the anchor), and work memory: three first edge numbers, two vertices
+-- memory after it: route memory as it was, one turn logged (vertex 0, the anchor), and work memory: three first edge numbers, two vertices; their costs
 abbrev pub twoVerticesAfter : Memory → Memory
 twoVerticesAfter m =
     record {
       route = m .route;
       log = over (take (length (m .log)) (0 ∷ [])) (m .log);
-      work = over (0 ∷ 0 ∷ 0 ∷ 0 ∷ 0 ∷ unset ∷ 2 ∷ unset ∷ unset ∷ unset ∷ 0 ∷ []) (m .work);
+      work = over (0 ∷ 0 ∷ 0 ∷ unset ∷ 2 ∷ unset ∷ 0 ∷ []) (m .work);
+      wide = over (0 ∷ 0 ∷ never ∷ never ∷ []) (m .wide);
     }
 
 -- ---- start = goal
@@ -138,6 +151,7 @@ startAlone c =
       route = over (c .start ∷ replicate (v - 1) routeEnd) (c .memory .route);
       log = c .memory .log;
       work = over (workWords v (planEdges c) (atFirst v (c .start))) (c .memory .work);
+      wide = over (wideWords (atFirst v (c .start))) (c .memory .wide);
     }
 
 -- ---- the table
@@ -149,7 +163,8 @@ pub record Cases : Type 0 where
       (record {
         route = 0 ∷ 1 ∷ 2 ∷ 3 ∷ old ∷ [];
         log = 65536 ∷ 65538 ∷ 1 ∷ 65538 ∷ old ∷ [];
-        work = workA (0 ∷ 0 ∷ unset ∷ 0 ∷ []) (1 ∷ 1 ∷ 0 ∷ 2 ∷ []) (3 ∷ 3 ∷ 1 ∷ 1 ∷ []) (6 ∷ unset ∷ 2 ∷ 4 ∷ []);
+        work = workA (unset ∷ 0 ∷ []) (0 ∷ 2 ∷ []) (1 ∷ 1 ∷ []) (2 ∷ 4 ∷ []);
+        wide = wideA (0 ∷ 0 ∷ []) (1 ∷ 1 ∷ []) (3 ∷ 3 ∷ []) (6 ∷ never ∷ []);
       })
   -- (p) allowance 2: route 0 2 3, cost 7, one round, bound 40000
   pub job-A-at-2 :
@@ -157,7 +172,8 @@ pub record Cases : Type 0 where
       (record {
         route = 0 ∷ 2 ∷ 3 ∷ unset ∷ old ∷ [];
         log = 65536 ∷ 65538 ∷ old ∷ old ∷ old ∷ [];
-        work = workA (0 ∷ 0 ∷ unset ∷ 0 ∷ []) (1 ∷ unset ∷ 0 ∷ 4 ∷ []) (4 ∷ 4 ∷ 0 ∷ 0 ∷ []) (7 ∷ unset ∷ 2 ∷ 4 ∷ []);
+        work = workA (unset ∷ 0 ∷ []) (0 ∷ 4 ∷ []) (0 ∷ 0 ∷ []) (2 ∷ 4 ∷ []);
+        wide = wideA (0 ∷ 0 ∷ []) (1 ∷ never ∷ []) (4 ∷ 4 ∷ []) (7 ∷ never ∷ []);
       })
   -- (p) allowance 1: unfinished
   pub job-A-at-1 :
@@ -165,7 +181,8 @@ pub record Cases : Type 0 where
       (record {
         route = old ∷ old ∷ old ∷ old ∷ old ∷ [];
         log = 65536 ∷ old ∷ old ∷ old ∷ old ∷ [];
-        work = workA (0 ∷ 0 ∷ unset ∷ 1 ∷ []) (1 ∷ unset ∷ 0 ∷ 4 ∷ []) (4 ∷ unset ∷ 0 ∷ 4 ∷ []) (unset ∷ unset ∷ unset ∷ 0 ∷ []);
+        work = workA (unset ∷ 1 ∷ []) (0 ∷ 4 ∷ []) (0 ∷ 4 ∷ []) (unset ∷ 0 ∷ []);
+        wide = wideA (0 ∷ 0 ∷ []) (1 ∷ never ∷ []) (4 ∷ never ∷ []) (never ∷ never ∷ []);
       })
   -- the same three from job bytes, as the bench program prints them
   pub job-A-prints : PrintsA

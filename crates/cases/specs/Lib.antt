@@ -3,3 +3,4 @@ pub mod Cases
 pub mod Instance
 pub mod Apart
 pub mod Barred
+pub mod Costs

@@ -41,9 +41,10 @@ pub extern "C" fn secondcoop_plan(
     route: &mut [u32],
     log: &mut [u32],
     work: &mut [u32],
+    wide: &mut [u64],
     figures: &mut [u64; 8],
 )
-    ensures { λ r. ⌜ Exported (callOf (now (bytes .entry)) start goal barred (now (anchor .entry)) (now (guides .entry)) «guide_count» (now (schedule .entry)) budget (memoryOf (now (route .entry)) (now (log .entry)) (now (work .entry)))) (now (figures .exit)) (memoryOf (now (route .exit)) (now (log .exit)) (now (work .exit))) ⌝ }
+    ensures { λ r. ⌜ Exported (callOf (now (bytes .entry)) start goal barred (now (anchor .entry)) (now (guides .entry)) «guide_count» (now (schedule .entry)) budget (memoryOf (now (route .entry)) (now (log .entry)) (now (work .entry)) (now (wide .entry)))) (now (figures .exit)) (memoryOf (now (route .exit)) (now (log .exit)) (now (work .exit)) (now (wide .exit))) ⌝ }
 {
     let answer = planner::plan(
         bytes,
@@ -58,6 +59,7 @@ pub extern "C" fn secondcoop_plan(
         route,
         log,
         work,
+        wide,
     );
     *figures = of_answer(answer);
 }

@@ -17,7 +17,7 @@ use Rattle.job.specs.declared.Front.{Front}
 use Rattle.job.specs.declared.JobRead.the-variants.{Refused}
 use Rattle.job.specs.Front.{front}
 use Rattle.job.specs.Reading.{maxJobBytes, maxJobEdges, planOf, tableCount, afterPlan, afterFront, jobRead}
-use Rattle.job.specs.Asked.{tablesOf, anchorOf, sheetsOf, routeSize, workSize, zeros, callWith, callAsked}
+use Rattle.job.specs.Asked.{tablesOf, anchorOf, sheetsOf, routeSize, workSize, wideSize, zeros, callWith, callAsked}
 use Rattle.job.specs.Refusals.{Own, ends, schedule, goal, edge, OwnRefusals, PlanRefusals}
 use Rattle.job.proofs.Accepted.{Ready, accepted-ready}
 
@@ -77,7 +77,8 @@ module _ (s : List ℕ) (f : Front) (v : ℕ) (r : Ready s f v) where
   memory-clear m h =
       simp (
         le-ltb routeSize v (r .vertices),
-        le-ltb workSize (5 * v + 1 + 3 * m) (omega (arith, r .vertices)),
+        le-ltb workSize (3 * v + 1 + 3 * m) (omega (arith, r .vertices)),
+        le-ltb wideSize (2 * v) (omega (arith, r .vertices)),
       )
 
   own-by : (n p : ℕ) (d : Decoded) → sizes d ≡ checked.Sizes v (r .edges) → faultIn (callAsked s f v) d ≡ fault n p → Own n

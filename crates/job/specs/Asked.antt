@@ -35,10 +35,13 @@ abbrev pub logSize : ℕ
 logSize = 8192
 
 abbrev pub workSize : ℕ
-workSize = 5 * maxJobVertices + 1 + 3 * maxJobEdges
+workSize = 3 * maxJobVertices + 1 + 3 * maxJobEdges
+
+abbrev pub wideSize : ℕ
+wideSize = 2 * maxJobVertices
 
 unfoldable pub zeros : Memory
-zeros = record { route = replicate routeSize 0; log = replicate logSize 0; work = replicate workSize 0 }
+zeros = record { route = replicate routeSize 0; log = replicate logSize 0; work = replicate workSize 0; wide = replicate wideSize 0 }
 
 -- ---- the call
 

@@ -16,6 +16,9 @@ slice-aggregate-plan-2 c = search needs
 slice-aggregate-plan-3 : tie.Need-slice-aggregate-plan-3
 slice-aggregate-plan-3 c = search needs
 
+slice-aggregate-plan-4 : tie.Need-slice-aggregate-plan-4
+slice-aggregate-plan-4 c = search needs
+
 plan-requires : tie.Need-plan-requires
 plan-requires c κs = search needs
 
@@ -34,7 +37,7 @@ same-length c = search needs
 returns : tie.Need-returns
 unfolding callWith zeros
 returns c =
-    let h = c .before .before .before .before .before .before .before .before .before .plan .ensures in
+    let h = c .before .before .before .before .before .before .before .before .before .before .plan .ensures in
     handed-text _ _ _ _ (h .answers) (ap (λ (m : Memory). m .route) (h .memory-is)) (ap (λ (m : Memory). m .log) (h .memory-is)) (c .before .before .put-answer .ensures)
 
 pub plan-call-spec : {M : Type 1} → statement M
@@ -44,6 +47,7 @@ plan-call-spec =
     slice-aggregate-plan
     slice-aggregate-plan-2
     slice-aggregate-plan-3
+    slice-aggregate-plan-4
     plan-requires
     slice-aggregate-put-answer
     slice-aggregate-put-answer-2
