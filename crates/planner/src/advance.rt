@@ -31,19 +31,8 @@ pub fn advance(
         Step::Finished => s,
         Step::Due(m, a) => {
             let f = schedule::factors(schedule, p.rounds);
-            turn::turn(
-                work,
-                wide,
-                log,
-                guides,
-                z,
-                barred,
-                f,
-                m,
-                a,
-                p.turn,
-                p.expansions,
-            );
+            let k = p.expansions;
+            turn::turn(work, wide, log, guides, z, barred, f, m, a, p.turn, k);
             let next = progress::after_turn(q.guides, p);
             let left = schedule::rounds(schedule) - next.rounds;
             rounds::settle(left, work, wide, route, anchor, schedule, z, q, next)
