@@ -11,9 +11,11 @@ use crate::reference;
 
 const MOST_VERTICES: u32 = 4_096;
 const MOST_EDGES: usize = 32_768;
-const MOST_COST: u32 = 1_000_000;
+const MOST_COST: u32 = 16_000_000;
 const MOST_CLASS: u32 = 7;
-const MOST_NUMBER: u32 = 2_097_151;
+/// The largest plan number, and the largest of three groups.
+const MOST_NUMBER: u32 = 268_435_455;
+const MOST_OF_THREE: u32 = 2_097_151;
 
 /// Where a stream's cases go, with the answer if their making decides it.
 pub type Sink<'a> = &'a mut dyn FnMut(Case, Option<Figures>);
@@ -37,15 +39,35 @@ pub fn random_classes(random: &mut Random, edges: usize) -> Vec<u32> {
     (0..edges).map(|_| random.pick(&classes)).collect()
 }
 
+/// Costs around the ends of groups, and around the limits of this version and
+/// of those before.
+const COST_LIMITS: [u32; 15] = [
+    0,
+    1,
+    127,
+    128,
+    129,
+    16_383,
+    16_384,
+    16_385,
+    999_999,
+    1_000_000,
+    1_000_001,
+    MOST_OF_THREE,
+    MOST_OF_THREE + 1,
+    MOST_COST - 1,
+    MOST_COST,
+];
+
 /// A cost with all group counts and the limits likely.
 pub fn random_cost(random: &mut Random) -> u32 {
     match random.below(8) {
-        0 => random.pick(&[
-            0, 1, 127, 128, 129, 16_383, 16_384, 16_385, 999_999, MOST_COST,
-        ]),
+        0 => random.pick(&COST_LIMITS),
         1 | 2 => random.range32(0, 127),
-        3 | 4 => random.range32(128, 16_383),
-        _ => random.range32(16_384, MOST_COST),
+        3 => random.range32(128, 16_383),
+        4 => random.range32(16_384, MOST_OF_THREE),
+        5 => random.range32(MOST_COST - 1_000, MOST_COST),
+        _ => random.range32(MOST_OF_THREE + 1, MOST_COST),
     }
 }
 
@@ -223,15 +245,16 @@ fn refused(number: u64, position: usize) -> Option<Figures> {
 
 /// A number from `first` to the largest plan number, `first` itself likely.
 fn number_from(random: &mut Random, first: u32) -> u32 {
-    match random.below(4) {
+    match random.below(5) {
         0 => first,
         1 => MOST_NUMBER,
         2 => random.range32(first, (first + 200).min(MOST_NUMBER)),
+        3 => random.range32(first, first.max(MOST_OF_THREE + 1)),
         _ => random.range32(first, MOST_NUMBER),
     }
 }
 
-/// A number of bad form in place of a good one: not shortest, over three
+/// A number of bad form in place of a good one: not shortest, over four
 /// groups, or (at the end of the bytes only) cut.
 fn bad_form(random: &mut Random, value: u32) -> Vec<u8> {
     let mut bytes = Vec::new();
@@ -239,21 +262,21 @@ fn bad_form(random: &mut Random, value: u32) -> Vec<u8> {
     match random.below(3) {
         // Not shortest.
         0 => {
-            let groups = random.range(bytes.len() as u64 + 1, 4) as usize;
+            let groups = random.range(bytes.len() as u64 + 1, 5) as usize;
             *bytes.last_mut().unwrap() += 128;
             bytes.resize(groups, 128);
             *bytes.last_mut().unwrap() = 0;
         }
-        // Over three groups, otherwise well-formed.
+        // Over four groups, otherwise well-formed.
         1 => {
             *bytes.last_mut().unwrap() += 128;
-            let groups = random.range(4, 6) as usize;
+            let groups = random.range(5, 7) as usize;
             bytes.resize(groups, 128 + random.byte() % 128);
             *bytes.last_mut().unwrap() = random.range(1, 127) as u8;
         }
-        // Three top bits.
+        // Four top bits.
         _ => {
-            bytes = (0..3).map(|_| 128 | random.byte()).collect();
+            bytes = (0..4).map(|_| 128 | random.byte()).collect();
             bytes.push(random.byte());
         }
     }
@@ -449,13 +472,16 @@ pub fn written_numbers(seed: u64, count: usize, sink: Sink) {
         128,
         16_383,
         16_384,
+        MOST_OF_THREE,
+        MOST_OF_THREE + 1,
         MOST_NUMBER - 1,
         MOST_NUMBER,
         MOST_NUMBER + 1,
+        1 << 31,
         u32::MAX,
     ];
     for _ in 0..count {
-        let room = random.index(7);
+        let room = random.index(8);
         let at = match random.below(16) {
             0 => usize::MAX - random.index(6),
             1 => random.draw() as usize,
@@ -736,7 +762,7 @@ fn too_many_edges(sink: Sink) {
             costs: vec![1; edges],
             classes: vec![7; edges],
         };
-        sink(plan.write_case(8 * edges), refused(3, 0));
+        sink(plan.write_case(9 * edges), refused(3, 0));
     }
 }
 

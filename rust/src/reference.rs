@@ -11,11 +11,11 @@ pub const MOST_VERTICES: u32 = 4_096;
 /// M is from 0 to this.
 pub const MOST_EDGES: u32 = 32_768;
 /// A cost is from 0 to this.
-pub const MOST_COST: u32 = 1_000_000;
+pub const MOST_COST: u32 = 16_000_000;
 /// A class is from 0 to this.
 pub const MOST_CLASS: u32 = 7;
-/// The largest number that three groups hold.
-pub const MOST_IN_THREE_GROUPS: u32 = (1 << 21) - 1;
+/// The largest plan number: what four groups hold.
+pub const MOST_IN_FOUR_GROUPS: u32 = (1 << 28) - 1;
 
 /// Refusals are numbered from 1 to this.
 pub const LAST_REFUSAL: u32 = 15;
@@ -40,6 +40,10 @@ pub fn read_plan_number(bytes: &[u8], at: usize) -> Result<(u32, usize), Refusal
         Some(&[a, b, ..]) if 0 < b && b < 0x80 => Ok((group(a) | group(b) << 7, at + 2)),
         Some(&[a, b, c, ..]) if b >= 0x80 && 0 < c && c < 0x80 => {
             Ok((group(a) | group(b) << 7 | group(c) << 14, at + 3))
+        }
+        Some(&[a, b, c, d, ..]) if b >= 0x80 && c >= 0x80 && 0 < d && d < 0x80 => {
+            let low = group(a) | group(b) << 7 | group(c) << 14;
+            Ok((low | group(d) << 21, at + 4))
         }
         _ => refuse(1, at),
     }
@@ -66,13 +70,14 @@ pub fn read_job_number(bytes: &[u8], at: usize) -> Result<(u32, usize), Refusal>
     refuse(1, at)
 }
 
-/// How many groups a plan number takes, if three are enough.
+/// How many groups a plan number takes, if four are enough.
 #[inline]
 fn plan_number_length(value: u32) -> Option<usize> {
     match value {
         0..=0x7F => Some(1),
         0x80..=0x3FFF => Some(2),
-        0x4000..=MOST_IN_THREE_GROUPS => Some(3),
+        0x4000..=0x1F_FFFF => Some(3),
+        0x20_0000..=MOST_IN_FOUR_GROUPS => Some(4),
         _ => None,
     }
 }
@@ -93,6 +98,12 @@ pub fn write_plan_number(out: &mut [u8], at: usize, value: u32) -> Result<usize,
             *a = value as u8 | 0x80;
             *b = (value >> 7) as u8 | 0x80;
             *c = (value >> 14) as u8;
+        }
+        (4, Some([a, b, c, d, ..])) => {
+            *a = value as u8 | 0x80;
+            *b = (value >> 7) as u8 | 0x80;
+            *c = (value >> 14) as u8 | 0x80;
+            *d = (value >> 21) as u8;
         }
         _ => return refuse(11, 0),
     }
@@ -133,7 +144,7 @@ fn read_edge(
     (tail_before, least): (u32, u32),
 ) -> Result<(Edge, usize), Refusal> {
     let (difference, head_at) = read_plan_number(bytes, at)?;
-    // At most 4,095 + 2,097,151: no overflow.
+    // At most 4,095 + 268,435,455: no overflow.
     let tail = tail_before + difference;
     if tail >= vertices {
         return refuse(4, at);
@@ -232,7 +243,7 @@ fn listed<'a>(
 /// The bytes that edges take after V and M, or the first fault.
 #[inline]
 fn edges_length(vertices: u32, edges: impl Iterator<Item = Edge>) -> Result<usize, Refusal> {
-    let length = |value| plan_number_length(value).expect("a checked number fits three groups");
+    let length = |value| plan_number_length(value).expect("a checked number fits four groups");
     let mut needed = 0;
     // The edge before, as tail and head.
     let mut last: Option<(u32, u32)> = None;
@@ -342,25 +353,34 @@ mod tests {
         assert_eq!(check_plan(&[2, 1, 2, 0, 0, 0]), at(4, 2));
         assert_eq!(check_plan(&[2, 1, 1, 2, 0, 0]), at(4, 3));
         assert_eq!(check_plan(&[2, 2, 1, 1, 0, 0, 0, 1, 0, 0]), at(6, 7));
-        assert_eq!(check_plan(&[2, 1, 1, 1, 0xC1, 0x84, 0x3D, 8]), at(5, 4));
-        assert_eq!(check_plan(&[2, 1, 1, 1, 0xC0, 0x84, 0x3D, 8]), at(15, 7));
-        assert_eq!(check_plan(&[2, 1, 1, 1, 0xC0, 0x84, 0x3D, 7]), Ok((2, 1)));
+        let with_cost = |cost: [u8; 4], class: u8| {
+            let [a, b, c, d] = cost;
+            check_plan(&[2, 1, 1, 1, a, b, c, d, class])
+        };
+        assert_eq!(with_cost([0x81, 0xC8, 0xD0, 7], 8), at(5, 4));
+        assert_eq!(with_cost([0x80, 0xC8, 0xD0, 7], 8), at(15, 8));
+        assert_eq!(with_cost([0x80, 0xC8, 0xD0, 7], 7), Ok((2, 1)));
+        assert_eq!(with_cost([0xFF, 0xFF, 0xFF, 0x7F], 7), at(5, 4));
+        assert_eq!(with_cost([0x80, 0xC8, 0xD0, 0x87], 1), at(1, 4));
         assert_eq!(check_plan(&[2, 1, 1, 1, 0, 0x87, 0]), at(1, 5));
         assert_eq!(check_plan(&[2, 1, 1, 1, 0, 0, 0]), at(7, 6));
     }
 
     #[test]
     fn plan_numbers_are_written_as_they_are_read() {
-        let mut out = [0; 4];
-        for value in 0..=MOST_IN_THREE_GROUPS {
+        let mut out = [0; 5];
+        // Every number up to three groups, and of four groups every 63rd,
+        // which the last is too.
+        let of_four = (0x20_0000..=MOST_IN_FOUR_GROUPS).rev().step_by(63);
+        for value in (0..0x20_0000).chain(of_four).chain([0x20_0000]) {
             let next = write_plan_number(&mut out, 1, value).unwrap();
             assert_eq!(read_plan_number(&out, 1), Ok((value, next)));
         }
         assert_eq!(
-            write_plan_number(&mut out, 9, MOST_IN_THREE_GROUPS + 1),
+            write_plan_number(&mut out, 9, MOST_IN_FOUR_GROUPS + 1),
             at(1, 0)
         );
-        assert_eq!(write_plan_number(&mut out, 2, 0x4000), at(11, 0));
+        assert_eq!(write_plan_number(&mut out, 2, 0x20_0000), at(11, 0));
         assert_eq!(write_plan_number(&mut out, usize::MAX, 0), at(11, 0));
     }
 

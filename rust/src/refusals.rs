@@ -14,11 +14,11 @@ use crate::words::{
 /// A refusal in words.
 pub fn refusal_words(number: u32) -> Option<&'static str> {
     Some(match number {
-        1 => "a plan number is cut off, longer than three groups or not in its shortest form",
+        1 => "a plan number is cut off, longer than four groups or not in its shortest form",
         2 => "the number of places is not from 1 to 4096",
         3 => "there are more than 32768 lanes",
         4 => "a tail or head is not a place",
-        5 => "a cost is above 1000000",
+        5 => "a cost is above 16000000",
         6 => "the lanes do not rise by tail, and under one tail by head",
         7 => "bytes are left over after the last lane",
         8 => "start or goal is not a place, or the barred number is above 255",

@@ -17,7 +17,7 @@ use std::fmt;
 use std::iter;
 
 use crate::generate::push_number;
-use crate::reference::{self, MOST_EDGES, MOST_IN_THREE_GROUPS, MOST_VERTICES};
+use crate::reference::{self, MOST_EDGES, MOST_IN_FOUR_GROUPS, MOST_VERTICES};
 use crate::words::{
     count, no_class, not_a_place, quoted, table_name, too_dear, too_many_lanes, wrong_place_count,
 };
@@ -365,7 +365,7 @@ impl PlanLines {
     fn bytes(&self) -> Result<Vec<u8>, String> {
         let mut bytes = Vec::new();
         let mut push = |line: usize, number: u32, wrong: &dyn Fn() -> String| {
-            if number > MOST_IN_THREE_GROUPS {
+            if number > MOST_IN_FOUR_GROUPS {
                 return Err(format!("line {line}: {}", wrong()));
             }
             push_number(&mut bytes, number);

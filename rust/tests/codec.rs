@@ -207,6 +207,7 @@ fn round_trips() {
             &mut bytes,
         );
         assert_eq!(answer, [0, 0, length as u64, 0]);
+        assert!(length <= 6 + 11 * edges);
         bytes.truncate(length);
         assert_eq!(bytes, plan.bytes());
         let mut lists = [(); 4].map(|()| vec![9; edges]);
@@ -231,9 +232,11 @@ fn round_trips() {
     trip(&generate::random_plan(&mut random, 4_096, 0));
     assert_eq!(trips, 10_303);
 
-    // Every plan number.
-    let mut out = [0; 5];
-    for value in 0..1 << 21 {
+    // Every plan number up to three groups, and of four groups every 127th,
+    // which the last is too.
+    let mut out = [0; 6];
+    let of_four = (1 << 21..1 << 28).rev().step_by(127);
+    for value in (0..1 << 21).chain(of_four).chain([1 << 21]) {
         let [number, position, next, zero] = Library.write_plan_number(&mut out, 1, value);
         assert_eq!([number, position, zero], [0; 3]);
         assert_eq!(

@@ -79,6 +79,22 @@ fn classes_and_barred_numbers() {
     }
 }
 
+/// Costs up to 16,000,000 stand in a lane's line, and are planned.
+#[test]
+fn costs_of_a_yard() {
+    for cost in [1_000_000, 1_000_001, 2_097_152, 15_999_999, 16_000_000] {
+        let text = JOB_A.replace("lane 2 3 3 0", &format!("lane 2 3 {cost} 0"));
+        let job = TextJob::parse(&text).unwrap();
+        assert_eq!(remarks(&job, Taker::Bench), []);
+        assert_eq!(format!("# Job A\n{job}"), text);
+        let again = TextJob::of_bytes(&job.bytes());
+        assert_eq!(again.to_string(), job.to_string());
+        let ending = format!("end cost {} rounds 2 ", 3 + cost);
+        let printed = bench_text::bench_text(&job.bytes());
+        assert!(printed.contains(&ending), "{printed}");
+    }
+}
+
 /// Every job's bytes have a text form that gives them back, and its remarks
 /// say what the bench program prints.
 fn round_trip(bytes: &[u8]) -> usize {
@@ -185,24 +201,28 @@ fn a_line_that_bytes_cannot_say_is_told() {
         ),
         (
             2,
-            "places 2097152",
-            "line 2: a plan has 1 to 4096 places, not 2097152",
+            "places 268435456",
+            "line 2: a plan has 1 to 4096 places, not 268435456",
         ),
         (
             3,
-            "lane 0 1 3000000 0",
-            "line 3: cost 3000000 is above 1000000",
-        ),
-        (3, "lane 0 1 1 3000000", "line 3: class 3000000 is above 7"),
-        (
-            6,
-            "lane 3000000 3 3 0",
-            "line 6: tail 3000000 is not a place; places are 0 to 3",
+            "lane 0 1 268435456 0",
+            "line 3: cost 268435456 is above 16000000",
         ),
         (
+            3,
+            "lane 0 1 1 268435456",
+            "line 3: class 268435456 is above 7",
+        ),
+        (
             6,
-            "lane 2 3000000 3 0",
-            "line 6: head 3000000 is not a place; places are 0 to 3",
+            "lane 268435457 3 3 0",
+            "line 6: tail 268435457 is not a place; places are 0 to 3",
+        ),
+        (
+            6,
+            "lane 2 268435456 3 0",
+            "line 6: head 268435456 is not a place; places are 0 to 3",
         ),
         (
             3,
@@ -359,15 +379,30 @@ fn a_line_that_the_bench_program_refuses_is_told() {
     for (line, other, words) in [
         (
             3,
-            "lane 0 1 1000001 0",
-            "line 3: cost 1000001 is above 1000000 (refusal 5)",
+            "lane 0 1 16000001 0",
+            "line 3: cost 16000001 is above 16000000 (refusal 5)",
+        ),
+        (
+            3,
+            "lane 0 1 268435455 0",
+            "line 3: cost 268435455 is above 16000000 (refusal 5)",
         ),
         (4, "lane 0 2 4 8", "line 4: class 8 is above 7 (refusal 15)"),
         (
             4,
-            "lane 0 2 1000001 9",
-            "line 4: cost 1000001 is above 1000000 (refusal 5); line 4: class 9 is above 7 \
+            "lane 0 2 16000001 9",
+            "line 4: cost 16000001 is above 16000000 (refusal 5); line 4: class 9 is above 7 \
              (refusal 15)",
+        ),
+        (
+            4,
+            "lane 0 2 4 268435455",
+            "line 4: class 268435455 is above 7 (refusal 15)",
+        ),
+        (
+            6,
+            "lane 2 268435455 3 0",
+            "line 6: head 268435455 is not a place; places are 0 to 3 (refusal 4)",
         ),
         (
             9,
@@ -432,6 +467,11 @@ fn a_line_that_the_bench_program_refuses_is_told() {
             2,
             "places 4097",
             "line 2: a plan has 1 to 4096 places, not 4097 (refusal 2)",
+        ),
+        (
+            2,
+            "places 268435455",
+            "line 2: a plan has 1 to 4096 places, not 268435455 (refusal 2)",
         ),
     ] {
         assert_eq!(remarks(line, other), words);

@@ -108,31 +108,157 @@ fn read_one(codec: &dyn Codec, bytes: &[u8]) -> ([u64; 4], [u32; 4]) {
     (answer, lists.map(|[word]| word))
 }
 
+/// A plan of one edge whose cost is these groups, at offset 4.
+fn plan_of_cost(groups: &[u8], class: u8) -> Vec<u8> {
+    [&[2, 1, 0, 1], groups, &[class]].concat()
+}
+
 #[test]
-fn a_cost_of_1_000_000_passes() {
+fn costs_up_to_16_000_000_pass() {
     on_both(|codec| {
-        let bytes = [2, 1, 0, 1, 0xC0, 0x84, 0x3D, 0];
-        assert_eq!(codec.check_plan(&bytes), [0, 0, 2, 1]);
-        assert_eq!(codec.read_plan_number(&bytes, 4), [0, 0, 1_000_000, 7]);
-        let (_, lists) = read_one(codec, &bytes);
-        assert_eq!(lists, [0, 1, 1_000_000, 0]);
+        for (cost, groups) in [
+            (999_999, &[0xBF, 0x84, 0x3D][..]),
+            (1_000_000, &[0xC0, 0x84, 0x3D]),
+            // Refused before there were lanes up to 16,000,000.
+            (1_000_001, &[0xC1, 0x84, 0x3D]),
+            (2_097_151, &[0xFF, 0xFF, 0x7F]),
+            (2_097_152, &[0x80, 0x80, 0x80, 1]),
+            (15_999_999, &[0xFF, 0xC7, 0xD0, 7]),
+            (16_000_000, &[0x80, 0xC8, 0xD0, 7]),
+        ] {
+            let bytes = plan_of_cost(groups, 0);
+            let end = 4 + groups.len() as u64;
+            assert_eq!(codec.check_plan(&bytes), [0, 0, 2, 1]);
+            assert_eq!(codec.read_plan_number(&bytes, 4), [0, 0, cost, end]);
+            let lists = [0, 1, cost as u32, 0];
+            assert_eq!(read_one(codec, &bytes), ([0, 0, 2, 1], lists));
+            let [tails, heads, costs, classes] = lists.map(|word| [word]);
+            let mut out = vec![0xEE; bytes.len()];
+            let answer = codec.write_plan(2, &tails, &heads, &costs, &classes, &mut out);
+            assert_eq!((answer, out), ([0, 0, end + 1, 0], bytes));
+        }
     });
 }
 
 #[test]
-fn a_cost_of_1_000_001_is_refusal_5_at_its_first_byte() {
+fn a_cost_above_16_000_000_is_refusal_5_at_its_first_byte() {
     on_both(|codec| {
-        // The cost stands at offset 4; the class after it does not count.
-        for class in [0, 8] {
-            let bytes = [2, 1, 0, 1, 0xC1, 0x84, 0x3D, class];
-            assert_eq!(codec.check_plan(&bytes), [5, 4, 0, 0]);
-            assert_eq!(codec.read_plan_number(&bytes, 4), [0, 0, 1_000_001, 7]);
-            assert_eq!(read_one(codec, &bytes), ([5, 4, 0, 0], [9; 4]));
-            // The writer's position is the edge's number.
-            let (costs, classes) = ([0, 1_000_001], [0, class.into()]);
-            let answer = codec.write_plan(2, &[0, 1], &[1, 0], &costs, &classes, &mut [0; 20]);
-            assert_eq!(answer, [5, 1, 0, 0]);
+        for (cost, groups) in [
+            (16_000_001, [0x81, 0xC8, 0xD0, 7]),
+            (16_777_216, [0x80, 0x80, 0x80, 8]),
+            (268_435_455, [0xFF, 0xFF, 0xFF, 0x7F]),
+        ] {
+            // The class after the cost does not count.
+            for class in [0, 8] {
+                let bytes = plan_of_cost(&groups, class);
+                assert_eq!(codec.check_plan(&bytes), [5, 4, 0, 0]);
+                assert_eq!(codec.read_plan_number(&bytes, 4), [0, 0, cost, 8]);
+                assert_eq!(read_one(codec, &bytes), ([5, 4, 0, 0], [9; 4]));
+                // The writer's position is the edge's number.
+                let (costs, classes) = ([0, cost as u32], [0, class.into()]);
+                let mut out = [0xEE; 30];
+                let answer = codec.write_plan(2, &[0, 1], &[1, 0], &costs, &classes, &mut out);
+                assert_eq!((answer, out), ([5, 1, 0, 0], [0xEE; 30]));
+            }
         }
+        // The writer takes any 32-bit number.
+        for cost in [268_435_456, u32::MAX] {
+            let answer = codec.write_plan(1, &[0], &[0], &[cost], &[0], &mut []);
+            assert_eq!(answer, [5, 0, 0, 0]);
+        }
+    });
+}
+
+#[test]
+fn a_cost_of_five_groups_is_refusal_1() {
+    on_both(|codec| {
+        for groups in [
+            &[0x80, 0xC8, 0xD0, 0x87, 1][..],
+            &[0x80, 0xC8, 0xD0, 0x87, 0],
+            &[0x80, 0x80, 0x80, 0x80, 1],
+            &[0xFF, 0xFF, 0xFF, 0xFF, 0x0F],
+            &[0x80, 0xC8, 0xD0, 0x87],
+            // Four groups of which the last is 0.
+            &[0xC1, 0x84, 0xBD, 0],
+        ] {
+            for bytes in [plan_of_cost(groups, 0), [&[2, 1, 0, 1], groups].concat()] {
+                assert_eq!(codec.check_plan(&bytes), [1, 4, 0, 0], "{groups:02X?}");
+                assert_eq!(codec.read_plan_number(&bytes, 4), [1, 4, 0, 0]);
+                assert_eq!(read_one(codec, &bytes), ([1, 4, 0, 0], [9; 4]));
+            }
+        }
+    });
+}
+
+/// Four groups stand in every plan number: it meets the rows after 1, where
+/// three groups were the most and it met 1.
+#[test]
+fn every_plan_number_may_have_four_groups() {
+    // V, M, tail, head, cost and class, and the refusal of a larger number.
+    let good = [3, 1, 0, 1, 5, 7];
+    on_both(|codec| {
+        assert_eq!(codec.check_plan(&good), [0, 0, 3, 1]);
+        for (at, number) in [(0, 2), (1, 3), (2, 4), (3, 4), (4, 5), (5, 15)] {
+            for (groups, number) in [
+                (&[0x80, 0x80, 0x80, 8][..], number),
+                (&[0xFF, 0xFF, 0xFF, 0x7F], number),
+                (&[0x80, 0x80, 0x80, 0x80, 1], 1),
+                (&[0x80, 0x80, 0x80, 0], 1),
+                (&[0x80, 0x80, 0x80], 1),
+            ] {
+                let whole = groups.last().is_some_and(|&group| group < 0x80);
+                let behind: &[u8] = if whole { &good[at + 1..] } else { &[] };
+                let bytes = [&good[..at], groups, behind].concat();
+                let refused = [number, at as u64, 0, 0];
+                assert_eq!(codec.check_plan(&bytes), refused, "{bytes:02X?}");
+                assert_eq!(read_one(codec, &bytes), (refused, [9; 4]));
+            }
+        }
+        // 2,097,152 is a cost.
+        let bytes = [&good[..4], &[0x80, 0x80, 0x80, 1], &good[5..]].concat();
+        assert_eq!(codec.check_plan(&bytes), [0, 0, 3, 1]);
+    });
+}
+
+/// Numbers at the ends of groups are read as they are written.
+#[test]
+fn numbers_at_the_ends_of_groups() {
+    on_both(|codec| {
+        for (value, groups) in [
+            (0, &[0][..]),
+            (127, &[0x7F]),
+            (128, &[0x80, 1]),
+            (16_383, &[0xFF, 0x7F]),
+            (16_384, &[0x80, 0x80, 1]),
+            (2_097_151, &[0xFF, 0xFF, 0x7F]),
+            (2_097_152, &[0x80, 0x80, 0x80, 1]),
+            (268_435_455, &[0xFF, 0xFF, 0xFF, 0x7F]),
+        ] {
+            let length = groups.len();
+            for room in 0..6 {
+                let mut out = vec![0xEE; room];
+                let answer = codec.write_plan_number(&mut out, 0, value);
+                if room < length {
+                    assert_eq!((answer, out), ([11, 0, 0, 0], vec![0xEE; room]));
+                    continue;
+                }
+                assert_eq!(answer, [0, 0, length as u64, 0]);
+                assert_eq!(out[..length], *groups);
+                assert!(out[length..].iter().all(|&byte| byte == 0xEE));
+            }
+            let figures = [0, 0, value.into(), length as u64];
+            assert_eq!(codec.read_plan_number(groups, 0), figures);
+            assert_eq!(codec.read_job_number(groups, 0), figures);
+        }
+        // What four groups cannot hold is not written; job numbers have five.
+        for value in [268_435_456, 1 << 31, u32::MAX] {
+            let mut out = [0xEE; 6];
+            let answer = codec.write_plan_number(&mut out, 0, value);
+            assert_eq!((answer, out), ([1, 0, 0, 0], [0xEE; 6]));
+        }
+        let five = [0x80, 0x80, 0x80, 0x80, 1];
+        assert_eq!(codec.read_plan_number(&five, 0), [1, 0, 0, 0]);
+        assert_eq!(codec.read_job_number(&five, 0), [0, 0, 268_435_456, 5]);
     });
 }
 
@@ -166,6 +292,7 @@ fn a_class_above_7_is_refusal_15_at_its_first_byte() {
                 (127, &[0x7F]),
                 (128, &[0x80, 1]),
                 (2_097_151, &[0xFF, 0xFF, 0x7F]),
+                (268_435_455, &[0xFF, 0xFF, 0xFF, 0x7F]),
             ] {
                 let mut bytes = good.to_vec();
                 bytes.splice(at..at + 1, groups.iter().copied());
@@ -178,7 +305,7 @@ fn a_class_above_7_is_refusal_15_at_its_first_byte() {
                 assert_eq!((answer, out), ([15, edge as u64, 0, 0], [0xEE; 20]));
             }
             // A class of bad form is refusal 1 there, and so is none.
-            for groups in [&[0x87, 0][..], &[0x88, 0x80, 0x80, 1], &[]] {
+            for groups in [&[0x87, 0][..], &[0x88, 0x80, 0x80, 0x80, 1], &[]] {
                 let bytes = [&good[..at], groups].concat();
                 assert_eq!(codec.check_plan(&bytes), [1, at as u64, 0, 0]);
                 assert_eq!(read_one(codec, &bytes), ([1, at as u64, 0, 0], [9; 4]));
@@ -240,9 +367,9 @@ fn written(codec: &dyn Codec, vertices: u32, lists: [&[u32]; 4], room: usize) ->
 
 #[test]
 fn the_writer_takes_its_refusals_in_order() {
-    let bad: &[u32] = &[2_000_000];
+    let bad: &[u32] = &[20_000_000];
     let (tails, heads): (&[u32], &[u32]) = (&[1, 1], &[1, 2]);
-    let (dear, high): (&[u32], &[u32]) = (&[0, 1_000_001], &[0, 8]);
+    let (dear, high): (&[u32], &[u32]) = (&[0, 16_000_001], &[0, 8]);
     let free: &[u32] = &[0, 0];
     on_both(|codec| {
         for (vertices, lists, answer) in [
@@ -257,9 +384,9 @@ fn the_writer_takes_its_refusals_in_order() {
             (3, [&[1, 1], &[1, 1], dear, high], [6, 1]),
             (3, [tails, heads, dear, free], [5, 1]),
             (3, [tails, heads, dear, high], [5, 1]),
-            (3, [tails, heads, &[0, 1_000_000], high], [15, 1]),
+            (3, [tails, heads, &[0, 16_000_000], high], [15, 1]),
             // An earlier edge's fault counts first, whatever its number.
-            (3, [&[1, 9], heads, &[1_000_001, 0], free], [5, 0]),
+            (3, [&[1, 9], heads, &[16_000_001, 0], free], [5, 0]),
             (3, [&[1, 9], heads, dear, &[8, 0]], [15, 0]),
             (3, [tails, heads, dear, &[8, 0]], [15, 0]),
         ] {
@@ -288,8 +415,9 @@ fn a_number_is_written_or_nothing_is() {
         let mut out = [0xEE; 4];
         // Too large counts before no room.
         for (at, value, number) in [
-            (0, 1 << 21, 1),
-            (9, 1 << 21, 1),
+            (0, 1 << 28, 1),
+            (9, 1 << 28, 1),
+            (1, 1 << 21, 11),
             (2, 1 << 14, 11),
             (4, 0, 11),
             (usize::MAX, 128, 11),

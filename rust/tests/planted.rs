@@ -13,6 +13,18 @@ enum Fault {
     None,
     /// A number that is not shortest is read.
     NotShortest,
+    /// A number of four groups is refused.
+    ThreeGroups,
+    /// A number of five groups is read.
+    FiveGroups,
+    /// The fourth group is left out.
+    FourthGroup,
+    /// A plan with a number of four groups is refused.
+    PlanOfThreeGroups,
+    /// A number of four groups is not written.
+    WriterThreeGroups,
+    /// 268,435,456 is written, cut to four groups.
+    WriterFiveGroups,
     /// The offset of a number's last byte instead of its first.
     LastByte,
     /// A job number of 33 bits is read, cut to 32.
@@ -29,8 +41,12 @@ enum Fault {
     VertexLimit,
     /// An edge count out of range is refusal 2.
     EdgeLimit,
-    /// A cost of 1,000,001 passes.
+    /// A cost of 16,000,001 passes.
     CostLimit,
+    /// A cost above 1,000,000 is refused.
+    OldCostLimit,
+    /// A cost of 16,777,215 passes, as 24 bits would have it.
+    CostOf24Bits,
     /// A class of 8 passes.
     ClassLimit,
     /// A class above 7 stands at the cost.
@@ -67,6 +83,10 @@ enum Fault {
     WriterPosition,
     /// The writer passes a class of 8 as 7.
     WriterClassLimit,
+    /// The writer passes a cost of 16,000,001 as 16,000,000.
+    WriterCostLimit,
+    /// The writer refuses a cost above 1,000,000.
+    WriterOldCostLimit,
     /// The writer refuses a class before a cost.
     WriterClassBeforeCost,
     /// The writer begins to write where it has no room.
@@ -75,8 +95,14 @@ enum Fault {
     OutputBeyond,
 }
 
-const FAULTS: [Fault; 31] = [
+const FAULTS: [Fault; 41] = [
     Fault::NotShortest,
+    Fault::ThreeGroups,
+    Fault::FiveGroups,
+    Fault::FourthGroup,
+    Fault::PlanOfThreeGroups,
+    Fault::WriterThreeGroups,
+    Fault::WriterFiveGroups,
     Fault::LastByte,
     Fault::JobNumberOf33Bits,
     Fault::SixGroups,
@@ -86,6 +112,8 @@ const FAULTS: [Fault; 31] = [
     Fault::VertexLimit,
     Fault::EdgeLimit,
     Fault::CostLimit,
+    Fault::OldCostLimit,
+    Fault::CostOf24Bits,
     Fault::ClassLimit,
     Fault::ClassPosition,
     Fault::ClassForm,
@@ -104,12 +132,42 @@ const FAULTS: [Fault; 31] = [
     Fault::WriterOrder,
     Fault::WriterPosition,
     Fault::WriterClassLimit,
+    Fault::WriterCostLimit,
+    Fault::WriterOldCostLimit,
     Fault::WriterClassBeforeCost,
     Fault::OutputAtRefusal,
     Fault::OutputBeyond,
 ];
 
 struct Faulty(Fault);
+
+/// The plan numbers of bytes that are accepted: offset, value and count of
+/// groups of each.
+fn plan_numbers(bytes: &[u8], answer: Figures) -> Vec<(u64, u64, u64)> {
+    let mut numbers = Vec::new();
+    let mut at = 0;
+    while answer[0] == 0 && at < bytes.len() as u64 {
+        let [_, _, value, next] = Reference.read_plan_number(bytes, at as usize);
+        numbers.push((at, value, next - at));
+        at = next;
+    }
+    numbers
+}
+
+/// The refusal of an accepted plan that has a number of four groups.
+fn first_of_four_groups(bytes: &[u8], answer: Figures) -> Option<Figures> {
+    let numbers = plan_numbers(bytes, answer);
+    let first = numbers.iter().find(|(_, _, groups)| *groups == 4)?;
+    Some([1, first.0, 0, 0])
+}
+
+/// The refusal of an accepted plan that has a cost above 1,000,000, which no
+/// other number of it is.
+fn first_above_a_million(bytes: &[u8], answer: Figures) -> Option<Figures> {
+    let numbers = plan_numbers(bytes, answer);
+    let first = numbers.iter().find(|(_, value, _)| *value > 1_000_000)?;
+    Some([5, first.0, 0, 0])
+}
 
 /// Whether lists of so much room are too short for a plan.
 fn is_short(bytes: &[u8], room: [usize; 4]) -> bool {
@@ -123,7 +181,7 @@ impl Faulty {
     fn other_lists(&self, lists: [&[u32]; 4], number: u64) -> Option<[Vec<u32>; 4]> {
         let edges = lists.map(<[u32]>::len);
         let mut other = lists.map(<[u32]>::to_vec);
-        let [_, _, _, classes] = &mut other;
+        let [_, _, costs, classes] = &mut other;
         match self.0 {
             Fault::UnequalLists if number == 3 => {
                 let least = edges.into_iter().min().unwrap_or(0);
@@ -135,6 +193,11 @@ impl Faulty {
             Fault::WriterClassLimit if number == 15 => {
                 for class in classes.iter_mut().filter(|class| **class == 8) {
                     *class = 7;
+                }
+            }
+            Fault::WriterCostLimit if number == 5 => {
+                for cost in costs.iter_mut().filter(|cost| **cost == 16_000_001) {
+                    *cost = 16_000_000;
                 }
             }
             _ => return None,
@@ -151,6 +214,13 @@ impl Codec for Faulty {
                 [0, 0, u64::from(a) - 128, at as u64 + 2]
             }
             (Fault::LastByte, 1, Some(&[128..=255, 0, ..])) => [1, at as u64 + 1, 0, 0],
+            (Fault::ThreeGroups, 0, _) if answer[3] == at as u64 + 4 => [1, at as u64, 0, 0],
+            (Fault::FourthGroup, 0, _) => [0, 0, answer[2] % (1 << 21), answer[3]],
+            (
+                Fault::FiveGroups,
+                1,
+                Some(&[128..=255, 128..=255, 128..=255, 128..=255, 1..=127, ..]),
+            ) => [0, 0, 0, at as u64 + 5],
             _ => answer,
         }
     }
@@ -184,6 +254,10 @@ impl Codec for Faulty {
         let answer = Reference.write_plan_number(out, at, value);
         match self.0 {
             Fault::RoomBeforeValue if answer[0] == 1 && at >= out.len() => [11, 0, 0, 0],
+            Fault::WriterThreeGroups if answer[0] == 0 && value >= 1 << 21 => [1, 0, 0, 0],
+            Fault::WriterFiveGroups if value == 1 << 28 => {
+                Reference.write_plan_number(out, at, value - 1)
+            }
             Fault::HalfANumber if answer[0] == 11 && at < out.len() => {
                 out[at] = value as u8 | 128;
                 answer
@@ -207,9 +281,12 @@ impl Codec for Faulty {
                 changed(0, 2, &[0x80, 0x20])
             }
             Fault::EdgeLimit if number == 3 => [2, position, 0, 0],
-            Fault::CostLimit if number == 5 && bytes[at..].starts_with(&[0xC1, 0x84, 0x3D]) => {
-                changed(at, at + 3, &[0xC0, 0x84, 0x3D])
+            Fault::CostLimit if number == 5 && bytes[at..].starts_with(&[0x81, 0xC8, 0xD0, 7]) => {
+                changed(at, at + 1, &[0x80])
             }
+            Fault::CostOf24Bits if number == 5 && bytes[at + 3] == 7 => changed(at, at + 4, &[0]),
+            Fault::PlanOfThreeGroups => first_of_four_groups(bytes, answer).unwrap_or(answer),
+            Fault::OldCostLimit => first_above_a_million(bytes, answer).unwrap_or(answer),
             Fault::ClassLimit if number == 15 && bytes[at] == 8 => changed(at, at + 1, &[7]),
             Fault::ClassPosition if number == 15 => [15, position - 1, 0, 0],
             Fault::ClassForm if number == 1 => {
@@ -294,8 +371,13 @@ impl Codec for Faulty {
             Fault::WriterClassBeforeCost if number == 5 && classes[position as usize] > 7 => {
                 return [15, position, 0, 0];
             }
-            Fault::WriterOrder if number == 6 && costs[position as usize] > 1_000_000 => {
+            Fault::WriterOrder if number == 6 && costs[position as usize] > 16_000_000 => {
                 return [5, position, 0, 0];
+            }
+            Fault::WriterOldCostLimit if number == 0 => {
+                if let Some(edge) = costs.iter().position(|&cost| cost > 1_000_000) {
+                    return [5, edge as u64, 0, 0];
+                }
             }
             Fault::WriterPosition if number == 5 => return [5, position + 1, 0, 0],
             Fault::OutputAtRefusal if number == 11 && !out.is_empty() => out[0] ^= 1,

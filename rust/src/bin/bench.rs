@@ -14,8 +14,7 @@ const RUNS: usize = 15;
 /// Calls in one run.
 const CALLS: u32 = 100;
 
-/// One plan with eight edges at each vertex, a third of the costs in one
-/// group, a third in two and a third in three, and of all eight classes.
+/// One plan with eight edges at each vertex and edges of all eight classes.
 struct Plan {
     tails: Vec<u32>,
     heads: Vec<u32>,
@@ -36,7 +35,9 @@ impl Plan {
     }
 }
 
-fn largest_plan() -> Plan {
+/// Costs of so many groups in equal parts; one to three groups are those that
+/// plans had before costs of four.
+fn largest_plan(groups: u64) -> Plan {
     let mut random = Random::new(4_096);
     let each = EDGES / VERTICES as usize;
     let mut plan = Plan {
@@ -57,10 +58,11 @@ fn largest_plan() -> Plan {
         for head in heads {
             plan.tails.push(tail);
             plan.heads.push(head);
-            plan.costs.push(match random.below(3) {
+            plan.costs.push(match random.below(groups) {
                 0 => random.range32(0, 127),
                 1 => random.range32(128, 16_383),
-                _ => random.range32(16_384, 1_000_000),
+                2 => random.range32(16_384, 1_000_000),
+                _ => random.range32(2_097_152, 16_000_000),
             });
         }
     }
@@ -121,25 +123,32 @@ fn compare_reading(plan: &Plan, bytes: &[u8]) {
     assert!(costs == plan.costs && classes == plan.classes);
 }
 
+/// Times reading and writing one plan.
+fn compare_plan(plan: &Plan) {
+    let mut bytes = vec![0; 11 * EDGES + 6];
+    let written = plan.write(&Reference, &mut bytes);
+    assert_eq!(written[..2], [0, 0]);
+    bytes.truncate(written[2] as usize);
+    compare_reading(plan, &bytes);
+    let mut out = vec![0; bytes.len()];
+    compare("write_plan", |side| {
+        run(|| black_box(plan).write(side, &mut out), written)
+    });
+    assert!(out == bytes);
+}
+
 fn main() {
     println!(
-        "Reading and writing the largest plan ({VERTICES} vertices, {EDGES} edges, costs of one \
-         to three groups, eight classes): ns per edge, median of {RUNS} alternating runs of \
-         {CALLS} calls, library / second implementation."
+        "Reading and writing the largest plan ({VERTICES} vertices, {EDGES} edges, eight \
+         classes), with costs of one to three groups and of one to four: ns per edge, median of \
+         {RUNS} alternating runs of {CALLS} calls, library / second implementation."
     );
     println!(
         "{:<12} {:>10} {:>10} {:>8}",
         "call", "library", "second", "ratio"
     );
-    let plan = largest_plan();
-    let mut bytes = vec![0; 8 * EDGES + 6];
-    let written = plan.write(&Reference, &mut bytes);
-    assert_eq!(written[..2], [0, 0]);
-    bytes.truncate(written[2] as usize);
-    compare_reading(&plan, &bytes);
-    let mut out = vec![0; bytes.len()];
-    compare("write_plan", |side| {
-        run(|| black_box(&plan).write(side, &mut out), written)
-    });
-    assert!(out == bytes);
+    for groups in [3, 4] {
+        println!("costs of one to {groups} groups");
+        compare_plan(&largest_plan(groups));
+    }
 }
