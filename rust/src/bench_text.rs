@@ -130,10 +130,12 @@ pub fn bench_text_by(bytes: &[u8], fault: Option<Fault>) -> String {
     };
     let mut route = vec![0; vertices];
     let mut work = vec![0; planner::work_words(vertices, edges)];
+    let mut wide = vec![0; planner::wide_numbers(vertices)];
     let memory = Memory {
         route: &mut route,
         log: &mut [],
         work: &mut work,
+        wide: &mut wide,
     };
     let mut turns = Vec::new();
     let answer = planner::plan_observed(&request, memory, fault, &mut |event| {

@@ -89,6 +89,10 @@ pub struct Events {
     pub barred_cheaper: u64,
     /// There is no route, and with barred edges there would be one.
     pub barred_only: u64,
+    /// A cost g beyond 32 bits was written: a vertex was expanded at it.
+    pub wide_g: u64,
+    /// The kept cost is beyond 32 bits.
+    pub wide_route: u64,
 }
 
 /// What the events of one search have shown so far.
@@ -105,6 +109,12 @@ struct Seen {
     again: bool,
     no_line: bool,
     too_dear: bool,
+    wide: bool,
+}
+
+/// Whether a cost takes more than 32 bits.
+fn is_wide(cost: u64) -> bool {
+    cost > u64::from(u32::MAX)
 }
 
 impl Seen {
@@ -160,6 +170,8 @@ impl Events {
             ("barred edge at hand", self.barred_at_hand),
             ("barred edge would be cheaper", self.barred_cheaper),
             ("only barred edges lead on", self.barred_only),
+            ("g beyond 32 bits", self.wide_g),
+            ("route beyond 32 bits", self.wide_route),
         ]
     }
 
@@ -191,9 +203,13 @@ impl Events {
                 Event::Turn {
                     table,
                     vertex,
+                    g,
                     no_line,
                     ..
-                } => seen.turn(table, vertex, no_line, job.guide_count),
+                } => {
+                    seen.turn(table, vertex, no_line, job.guide_count);
+                    seen.wide |= is_wide(g);
+                }
                 Event::Finish { .. } => self.count_finish(job, event, &mut seen),
                 Event::Cut { round, turns } => {
                     self.count_cut(job, round, turns, seen.turns_in_round == 0);
@@ -209,6 +225,7 @@ impl Events {
         self.again_later += u64::from(seen.again);
         self.no_line += u64::from(seen.no_line);
         self.line_too_dear += u64::from(seen.too_dear);
+        self.wide_g += u64::from(seen.wide);
         self.count_answer(job, answer);
         if !matches!(answer, Answer::Refused { .. }) {
             let plan = Plan::of_bytes(&job.bytes);
@@ -287,6 +304,7 @@ impl Events {
             };
             self.all_rounds += u64::from(rounds as usize == asked);
             self.free_walk += u64::from(cost == 0 && length > 1);
+            self.wide_route += u64::from(is_wide(cost));
             self.log_full += u64::from(turns as usize > job.log_room);
         }
     }

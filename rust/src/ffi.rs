@@ -78,6 +78,8 @@ extern "C" {
         log_length: usize,
         work: *mut u32,
         work_length: usize,
+        wide: *mut u64,
+        wide_length: usize,
         figures: *mut u64,
     );
     fn secondcoop_bench_text(
@@ -205,7 +207,12 @@ pub fn plan(request: &Request, memory: Memory) -> planner::Figures {
         schedule,
         budget,
     } = request;
-    let Memory { route, log, work } = memory;
+    let Memory {
+        route,
+        log,
+        work,
+        wide,
+    } = memory;
     // SAFETY: as above, and the memory is lent mutably and is disjoint.
     figures_of(|figures| unsafe {
         secondcoop_plan(
@@ -228,6 +235,8 @@ pub fn plan(request: &Request, memory: Memory) -> planner::Figures {
             log.len(),
             work.as_mut_ptr(),
             work.len(),
+            wide.as_mut_ptr(),
+            wide.len(),
             figures,
         )
     })

@@ -26,6 +26,13 @@ impl Element for u32 {
     }
 }
 
+impl Element for u64 {
+    fn pattern(salt: u64, index: usize) -> u64 {
+        salt.wrapping_mul(0x9E37_79B9_7F4A_7C15)
+            .wrapping_add((index as u64).wrapping_mul(0x0101_0107_0B0D_1113))
+    }
+}
+
 /// Memory with a pattern in it and around it.
 #[derive(Clone, Debug, PartialEq, Eq)]
 pub struct Guarded<T> {

@@ -1,7 +1,7 @@
 //! Seeded jobs for the planner: tiny graphs, ladders, grids, zero costs,
 //! self-edges, barred classes, hostile and constant sheets, budgets around
-//! the ends of rounds, start = goal, no walk to the goal, and jobs damaged for
-//! each refusal.
+//! the ends of rounds, start = goal, no walk to the goal, long paths whose
+//! costs pass 32 bits, and jobs damaged for each refusal.
 
 use std::collections::BTreeMap;
 
@@ -10,6 +10,7 @@ use crate::dijkstra;
 use crate::generate::{self, Plan};
 use crate::planner::{self, Answer, Event, Memory, Request};
 use crate::random::Random;
+use crate::reference::MOST_COST;
 
 /// A planner call with the lengths of its lent memory.
 #[derive(Clone, Debug)]
@@ -26,6 +27,7 @@ pub struct Job {
     pub route_room: usize,
     pub log_room: usize,
     pub work_room: usize,
+    pub wide_room: usize,
 }
 
 impl Job {
@@ -55,6 +57,7 @@ impl Job {
             route_room: vertices,
             log_room: 64,
             work_room: planner::work_words(vertices, plan.edges()),
+            wide_room: planner::wide_numbers(vertices),
         }
     }
 
@@ -80,6 +83,7 @@ impl Job {
             route: &mut vec![0; self.route_room],
             log: &mut [],
             work: &mut vec![0; self.work_room],
+            wide: &mut vec![0; self.wide_room],
         };
         let answer = planner::plan_observed(&self.request(), memory, None, &mut |event| {
             events.push(event)
@@ -142,7 +146,7 @@ pub fn random_schedule(random: &mut Random) -> Vec<u32> {
 /// A table that passes refusals 12 and 13.
 pub fn random_anchor(random: &mut Random, plan: &Plan, goal: u32) -> Vec<u32> {
     let vertices = plan.vertices as usize;
-    let most = random.pick(&[3, 20, 1_000, 1_000_000, u32::MAX]);
+    let most = random.pick(&[3, 20, 1_000, 1_000_000, MOST_COST, u32::MAX]);
     let mut wish: Vec<u32> = match random.below(5) {
         0 => vec![0; vertices],
         1 => (0..vertices).map(|_| random.range32(0, most)).collect(),
@@ -161,6 +165,11 @@ pub fn random_anchor(random: &mut Random, plan: &Plan, goal: u32) -> Vec<u32> {
     table
 }
 
+/// A distance as a table's number: the greatest one where it is too far.
+fn narrowed(distance: u64) -> u32 {
+    u32::try_from(distance).unwrap_or(u32::MAX)
+}
+
 /// A guide sheet of any sort, hostile ones included.
 pub fn random_sheet(random: &mut Random, plan: &Plan, goal: u32, anchor: &[u32]) -> Vec<u32> {
     let vertices = plan.vertices as usize;
@@ -173,7 +182,7 @@ pub fn random_sheet(random: &mut Random, plan: &Plan, goal: u32, anchor: &[u32])
         kind @ (3 | 4) => dijkstra::distances_to(plan, goal, dijkstra::NO_BAR)
             .into_iter()
             .map(|distance| {
-                let distance = distance.map_or(u32::MAX, |distance| distance as u32);
+                let distance = distance.map_or(u32::MAX, narrowed);
                 if kind == 3 {
                     distance
                 } else {
@@ -216,6 +225,7 @@ fn cost(random: &mut Random, kind: u64) -> u32 {
         1 => u32::from(random.one_in(2)),
         2 | 3 => random.range32(0, 9),
         4 => random.range32(0, 100),
+        5 => random.range32(MOST_COST - 9, MOST_COST),
         _ => generate::random_cost(random),
     }
 }
@@ -245,7 +255,7 @@ pub const SHAPES: [Shape; 5] = [
 
 /// A plan of a shape.
 pub fn random_graph(random: &mut Random, shape: Shape) -> Plan {
-    let kind = random.below(7);
+    let kind = random.below(8);
     let mut pairs: Vec<(u32, u32)> = Vec::new();
     let vertices = match shape {
         Shape::Tiny => random.range32(1, 6),
@@ -366,6 +376,7 @@ pub fn job_on(random: &mut Random, plan: &Plan) -> Job {
     if random.one_in(3) {
         job.route_room += random.index(4);
         job.work_room += random.index(4);
+        job.wide_room += random.index(4);
     }
     job
 }
@@ -374,6 +385,28 @@ pub fn job_on(random: &mut Random, plan: &Plan) -> Job {
 pub fn random_job(random: &mut Random, shape: Shape) -> (Plan, Job) {
     let plan = random_graph(random, shape);
     let job = job_on(random, &plan);
+    (plan, job)
+}
+
+/// A job as it is, or with all its costs and tables times a factor, up to
+/// that by which its dearest edge comes near the greatest cost; the search
+/// goes the same way. The tables keep the anchor's rule, also where they end
+/// at the greatest number.
+fn dearer(random: &mut Random, (mut plan, mut job): (Plan, Job)) -> (Plan, Job) {
+    let dearest = plan.costs.iter().copied().max().unwrap_or(0);
+    if dearest == 0 || !random.one_in(4) {
+        return (plan, job);
+    }
+    let most = MOST_COST / dearest;
+    let factor = match random.one_in(2) {
+        true => most,
+        false => random.range32(1, most),
+    };
+    let tables = job.anchor.iter_mut().chain(&mut job.guides);
+    for number in plan.costs.iter_mut().chain(tables) {
+        *number = number.saturating_mul(factor);
+    }
+    job.bytes = plan.bytes();
     (plan, job)
 }
 
@@ -628,7 +661,7 @@ pub fn ends_of_rounds(job: &Job) -> Vec<u32> {
 pub fn valid_jobs(seed: u64, count: usize, sink: &mut dyn FnMut(&Plan, &Job)) {
     let mut random = Random::new(seed);
     for _ in 0..count {
-        let (plan, mut job) = match random.below(6) {
+        let job = match random.below(6) {
             0 => twisted_job(&mut random),
             1 => detour_job(&mut random),
             2 => steep_job(&mut random),
@@ -637,6 +670,7 @@ pub fn valid_jobs(seed: u64, count: usize, sink: &mut dyn FnMut(&Plan, &Job)) {
                 random_job(&mut random, shape)
             }
         };
+        let (plan, mut job) = dearer(&mut random, job);
         sink(&plan, &job);
         let mut budgets = Vec::new();
         for end in ends_of_rounds(&job) {
@@ -654,6 +688,79 @@ pub fn valid_jobs(seed: u64, count: usize, sink: &mut dyn FnMut(&Plan, &Job)) {
             }
         }
         for budget in budgets {
+            job.budget = budget;
+            sink(&plan, &job);
+        }
+    }
+}
+
+/// The least cost of an edge on a long path; 269 of them pass 32 bits.
+const LONG_COST: u32 = 15_999_000;
+
+/// A path of more than 269 edges near the greatest cost, so that a walk along
+/// it passes 32 bits, with a few edges over one vertex and edges back.
+fn long_path(random: &mut Random) -> (Plan, Vec<u32>) {
+    let vertices = random.range32(274, 320);
+    let mut edges = Vec::new();
+    for tail in 0..vertices - 1 {
+        edges.push((tail, tail + 1, random.range32(LONG_COST, MOST_COST)));
+    }
+    for _ in 0..random.index(4) {
+        let tail = random.range32(0, vertices - 3);
+        edges.push((tail, tail + 2, random.range32(LONG_COST, MOST_COST)));
+    }
+    for _ in 0..random.index(6) {
+        let tail = random.range32(1, vertices - 1);
+        let head = random.range32(0, tail - 1);
+        edges.push((tail, head, random.range32(0, MOST_COST)));
+    }
+    renumbered(random, vertices, &edges)
+}
+
+/// A job along a long path.
+fn long_job(random: &mut Random) -> (Plan, Job) {
+    let (plan, numbers) = long_path(random);
+    let (start, goal) = (numbers[0], numbers[numbers.len() - 1]);
+    let anchor = random_anchor(random, &plan, goal);
+    let guide_count = random.range32(0, 2);
+    let guides = (0..guide_count)
+        .flat_map(|_| random_sheet(random, &plan, goal, &anchor))
+        .collect();
+    let rounds = random.range(1, 3) as usize;
+    let most = [(); 2].map(|()| random.pick(&[100, 150, 500, 10_000]));
+    let mut schedule = falling_factors(random, rounds, most);
+    if random.one_in(2) {
+        schedule[2 * rounds - 2..].fill(100);
+    }
+    let mut job = Job::new(
+        &plan,
+        start,
+        goal,
+        anchor,
+        guides,
+        guide_count,
+        schedule,
+        u32::MAX,
+    );
+    job.log_room = random.pick(&[0, 64, 700]);
+    if random.one_in(4) {
+        job.barred = random_barred(random, &plan);
+    }
+    (plan, job)
+}
+
+/// Valid jobs along long paths, larger than a bench job: each with a budget
+/// that never runs out, with one that cuts the path, and with one near the
+/// end of a round.
+pub fn long_jobs(seed: u64, count: usize, sink: &mut dyn FnMut(&Plan, &Job)) {
+    let mut random = Random::new(seed);
+    for _ in 0..count {
+        let (plan, mut job) = long_job(&mut random);
+        sink(&plan, &job);
+        let ends = ends_of_rounds(&job);
+        let end = random.pick(&ends);
+        let near = random.range32(end.saturating_sub(1), end + 1);
+        for budget in [random.range32(260, 280), near] {
             job.budget = budget;
             sink(&plan, &job);
         }
@@ -732,19 +839,21 @@ fn damage_schedule(random: &mut Random, job: &mut Job) {
     }
 }
 
-/// Route or work memory too short.
+/// Route, work or wide memory too short.
 fn damage_memory(random: &mut Random, plan: &Plan, job: &mut Job) {
     let vertices = plan.vertices as usize;
-    if random.one_in(2) {
-        job.route_room = random.index(vertices);
-        return;
-    }
-    let needed = planner::work_words(vertices, plan.edges());
-    job.work_room = if random.one_in(2) {
-        needed - 1
-    } else {
-        random.index(needed)
+    let mut short = |needed: usize| match random.one_in(2) {
+        true => needed - 1,
+        false => random.index(needed),
     };
+    let route = short(vertices);
+    let work = short(planner::work_words(vertices, plan.edges()));
+    let wide = short(planner::wide_numbers(vertices));
+    match random.below(3) {
+        0 => job.route_room = route,
+        1 => job.work_room = work,
+        _ => job.wide_room = wide,
+    }
 }
 
 /// Raises the anchor table at one tail past the rule of one of its edges,
@@ -851,12 +960,13 @@ pub fn wild_jobs(seed: u64, count: usize, sink: &mut dyn FnMut(&Job)) {
 pub fn every_budget(seed: u64, count: usize, sink: &mut dyn FnMut(&Plan, &Job)) {
     let mut random = Random::new(seed);
     for _ in 0..count {
-        let (plan, mut job) = match random.below(4) {
+        let job = match random.below(4) {
             0 => twisted_job(&mut random),
             1 => detour_job(&mut random),
             2 => steep_job(&mut random),
             _ => random_job(&mut random, Shape::Tiny),
         };
+        let (plan, mut job) = dearer(&mut random, job);
         let last = ends_of_rounds(&job).into_iter().max().unwrap_or(0);
         for budget in 0..=last + 2 {
             job.budget = budget;
@@ -963,20 +1073,23 @@ pub fn damage_bench(random: &mut Random, plan: &Plan, job: &Job) -> Vec<u8> {
     bytes
 }
 
-/// Jobs at the limits: many vertices, many edges, costs whose sums come near
-/// 32 bits, tables of the greatest numbers, eight guides, sixteen rounds.
-pub fn large_jobs(seed: u64, sink: &mut dyn FnMut(&Plan, &Job)) {
-    let mut random = Random::new(seed);
-    // One path through all vertices, each edge of the greatest cost.
-    let path = Plan {
+/// One path through all vertices, each edge of the same cost.
+pub fn whole_path(cost: u32) -> Plan {
+    Plan {
         vertices: 4_096,
         tails: (0..4_095).collect(),
         heads: (1..4_096).collect(),
-        costs: vec![1_000_000; 4_095],
+        costs: vec![cost; 4_095],
         classes: (0..4_095).map(|edge| edge % 8).collect(),
-    };
+    }
+}
+
+/// Jobs on the path through all vertices, with tables of the least and of the
+/// greatest numbers.
+fn path_jobs(cost: u32, sink: &mut dyn FnMut(&Plan, &Job)) {
+    let path = whole_path(cost);
     let to_goal: Vec<u32> = (0..4_096)
-        .map(|vertex| (4_095 - vertex) * 1_000_000)
+        .map(|vertex| narrowed((4_095 - vertex) * u64::from(cost)))
         .collect();
     let greatest = vec![u32::MAX; 4_096];
     for (anchor, guides, guide_count, schedule) in [
@@ -998,6 +1111,15 @@ pub fn large_jobs(seed: u64, sink: &mut dyn FnMut(&Plan, &Job)) {
         job.log_room = 4_000;
         sink(&path, &job);
     }
+}
+
+/// Jobs at the limits: many vertices, many edges, costs whose sums come near
+/// 32 bits and the greatest sums, tables of the greatest numbers, eight
+/// guides, sixteen rounds.
+pub fn large_jobs(seed: u64, sink: &mut dyn FnMut(&Plan, &Job)) {
+    let mut random = Random::new(seed);
+    path_jobs(1_000_000, sink);
+    path_jobs(MOST_COST, sink);
     // Sixteen rounds and eight guides on the largest bench plan.
     let mut bench = connected(&mut random, 256);
     bench.costs.fill_with(|| random.range32(0, 99));

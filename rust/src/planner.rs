@@ -9,8 +9,11 @@ use std::ops::Range;
 
 use crate::reference::{self, Edge, Refusal};
 
-/// The paper's 4,294,967,295: not reached, never expanded, no predecessor.
+/// The paper's 4,294,967,295: no predecessor, and what follows a route.
 pub const NONE: u32 = u32::MAX;
+
+/// The paper's 2^64 − 1: not reached, never expanded.
+pub const UNREACHED: u64 = u64::MAX;
 
 /// W1 and W2 of each round where the schedule is empty.
 pub const HOUSE_SCHEDULE: [u32; 12] = [500, 500, 300, 300, 200, 200, 150, 150, 120, 120, 100, 100];
@@ -20,7 +23,12 @@ pub const MOST_BARRED: u32 = 255;
 
 /// The words of work memory that a call needs.
 pub fn work_words(vertices: usize, edges: usize) -> usize {
-    5 * vertices + 1 + 3 * edges
+    3 * vertices + 1 + 3 * edges
+}
+
+/// The numbers of wide memory that a call needs.
+pub fn wide_numbers(vertices: usize) -> usize {
+    2 * vertices
 }
 
 /// What one planner call is asked: the paper's job. Bit k of `barred` bars
@@ -44,6 +52,7 @@ pub struct Memory<'a> {
     pub route: &'a mut [u32],
     pub log: &'a mut [u32],
     pub work: &'a mut [u32],
+    pub wide: &'a mut [u64],
 }
 
 /// What a call leaves in figures: ending (0 route, 1 no route, 2 unfinished,
@@ -57,7 +66,7 @@ pub enum Answer {
     /// Kept cost, route length in vertices, finished rounds, turns, and
     /// W1·W2 of the last finished round.
     Route {
-        cost: u32,
+        cost: u64,
         length: u32,
         rounds: u32,
         turns: u32,
@@ -85,8 +94,7 @@ impl Answer {
                 turns,
                 bound,
             } => {
-                let [cost, length, rounds, turns, bound] =
-                    [cost, length, rounds, turns, bound].map(u64::from);
+                let [length, rounds, turns, bound] = [length, rounds, turns, bound].map(u64::from);
                 [0, 0, 0, cost, length, rounds, turns, bound]
             }
             Answer::NoRoute { turns } => [1, 0, 0, 0, 0, 0, turns.into(), 0],
@@ -99,7 +107,8 @@ impl Answer {
 
     /// The answer that has these figures, if there is one.
     pub fn of_figures(figures: Figures) -> Option<Answer> {
-        let [ending, number, position, cost, length, rounds, turns, bound] =
+        let [_, _, position, cost, ..] = figures;
+        let [ending, number, _, _, length, rounds, turns, bound] =
             figures.map(|figure| figure as u32);
         let answer = match ending {
             0 => Answer::Route {
@@ -132,7 +141,7 @@ pub enum Event {
         turn: u32,
         table: u32,
         vertex: u32,
-        g: u32,
+        g: u64,
         no_line: bool,
     },
     /// A round is finished: g(goal), the walk traced with its cost, and the
@@ -140,10 +149,10 @@ pub enum Event {
     Finish {
         round: u32,
         turns: u32,
-        goal_cost: u32,
+        goal_cost: u64,
         traced: Vec<u32>,
-        traced_cost: u32,
-        kept: Option<u32>,
+        traced_cost: u64,
+        kept: Option<u64>,
     },
     /// Step 2 ends the search in this round.
     Cut { round: u32, turns: u32 },
@@ -207,10 +216,18 @@ pub enum Fault {
     ClassOfCost,
     /// The anchor table's rule is tested on permitted edges alone.
     RuleOfPermitted,
+    /// g is cut to 32 bits.
+    NarrowG,
+    /// 4,294,967,295 stands for not reached and never expanded.
+    NarrowUnreached,
+    /// The traced walk is summed in 32 bits.
+    NarrowTrace,
+    /// Keys have g in 32 bits.
+    NarrowKey,
 }
 
 /// All faults.
-pub const FAULTS: [Fault; 26] = [
+pub const FAULTS: [Fault; 30] = [
     Fault::CostOfGoal,
     Fault::OpenAgain,
     Fault::Forgotten,
@@ -237,6 +254,10 @@ pub const FAULTS: [Fault; 26] = [
     Fault::NextClass,
     Fault::ClassOfCost,
     Fault::RuleOfPermitted,
+    Fault::NarrowG,
+    Fault::NarrowUnreached,
+    Fault::NarrowTrace,
+    Fault::NarrowKey,
 ];
 
 /// Who looks on at a search: counts its events, or plants a fault.
@@ -269,9 +290,13 @@ impl Onlooker for Observer<'_> {
     }
 }
 
-/// A vertex in the search, as it stands in work memory: the paper's cost g,
-/// cost when last expanded, predecessor, and marks as a sum.
-type Vertex = [u32; 4];
+/// A vertex in the search, as it stands in work memory: the paper's
+/// predecessor, and marks as a sum.
+type Vertex = [u32; 2];
+
+/// A vertex's costs in wide memory: the paper's cost g, and cost when last
+/// expanded.
+type Wide = [u64; 2];
 
 const GUIDE_MARK: u32 = 1;
 const ANCHOR_MARK: u32 = 2;
@@ -279,14 +304,16 @@ const OPEN: u32 = 4;
 const HELD: u32 = 8;
 
 /// A vertex that no walk has reached yet.
-const NOT_REACHED: Vertex = [NONE, NONE, NONE, 0];
+const NOT_REACHED: Vertex = [NONE, 0];
 
-/// The vertices that predecessors trace from the goal to the start.
+/// The vertices that predecessors trace from the goal to the start; of a ring,
+/// which a faulty planner may leave, V of them.
 fn traced(vertices: &[Vertex], goal: usize) -> impl Iterator<Item = u32> + '_ {
-    std::iter::successors(Some(goal as u32), |&vertex| {
-        let [_, _, before, _] = vertices[vertex as usize];
+    let walk = std::iter::successors(Some(goal as u32), |&vertex| {
+        let [before, _] = vertices[vertex as usize];
         (before != NONE).then_some(before)
-    })
+    });
+    walk.take(vertices.len())
 }
 
 /// How a search ends.
@@ -315,7 +342,8 @@ struct Graph<'a> {
 
 impl<'a> Graph<'a> {
     /// Loads a checked plan of V vertices and M edges into work memory: first
-    /// edges, heads, costs, classes; then the vertices stand there.
+    /// edges, heads, costs, classes; then the vertices stand there, their
+    /// predecessors and marks.
     fn load(
         bytes: &[u8],
         (vertices, edges): (usize, usize),
@@ -366,6 +394,7 @@ impl<'a> Graph<'a> {
 struct Search<'a, O> {
     graph: Graph<'a>,
     vertices: &'a mut [Vertex],
+    wide: &'a mut [Wide],
     goal: usize,
     barred: u32,
     anchor: &'a [u32],
@@ -380,7 +409,7 @@ struct Search<'a, O> {
     rounds: u32,
     bound: u32,
     /// Cost and length of the kept route, which stands in route memory.
-    kept: Option<(u32, u32)>,
+    kept: Option<(u64, u32)>,
     /// Turns before the round in hand, and the guide that a faulty planner
     /// goes on with.
     turns_before: u32,
@@ -399,17 +428,35 @@ impl<O: Onlooker> Search<'_, O> {
     /// without the marks `without`, and its vertex; equal keys: the lowest
     /// vertex.
     fn least(&self, table: &[u32], w1: u64, without: u32) -> Option<(u64, usize)> {
-        // No key is so great: 10,100 · 4,294,967,295 is the most.
+        // No key is so great: 100 · 65,520,000,000 + 10,000 · 4,294,967,295 is
+        // the most.
         let (mut least, mut lowest) = (u64::MAX, None);
-        for (vertex, (&[g, _, _, marks], &h)) in self.vertices.iter().zip(table).enumerate() {
+        let both = self.vertices.iter().zip(self.wide.iter());
+        for (vertex, ((&[_, marks], &[g, _]), &h)) in both.zip(table).enumerate() {
             if marks & (OPEN | without) == OPEN {
-                let key = 100 * u64::from(g) + w1 * u64::from(h);
+                let key = 100 * self.key_cost(g) + w1 * u64::from(h);
                 if key < least || key == least && self.onlooker.has(Fault::HighestVertex) {
                     (least, lowest) = (key, Some(vertex));
                 }
             }
         }
         Some((least, lowest?))
+    }
+
+    /// What a key takes for g.
+    fn key_cost(&self, g: u64) -> u64 {
+        match self.onlooker.has(Fault::NarrowKey) {
+            true => u64::from(g as u32),
+            false => g,
+        }
+    }
+
+    /// What a head takes for the cost of a walk.
+    fn head_cost(&self, cost: u64) -> u64 {
+        match self.onlooker.has(Fault::NarrowG) {
+            true => u64::from(cost as u32),
+            false => cost,
+        }
     }
 
     /// Whether a turn of a table tries an edge.
@@ -427,10 +474,11 @@ impl<O: Onlooker> Search<'_, O> {
     }
 
     fn expand(&mut self, vertex: usize, table: usize) {
-        let [g, expanded_at, _, marks] = &mut self.vertices[vertex];
+        let [g, expanded_at] = &mut self.wide[vertex];
         *expanded_at = *g;
-        *marks &= !OPEN;
         let g = *g;
+        let [_, marks] = &mut self.vertices[vertex];
+        *marks &= !OPEN;
         let (graph, edges) = (self.graph, self.graph.edges_of(vertex));
         let ends = graph.heads[edges.clone()].iter();
         let costs = graph.costs[edges.clone()].iter();
@@ -438,12 +486,14 @@ impl<O: Onlooker> Search<'_, O> {
             if !self.permits(cost, class, table) {
                 continue;
             }
-            // No walk without a ring costs over 4,095,000,000: no overflow.
-            let cost = g + cost;
-            let [g, expanded_at, predecessor, marks] = &mut self.vertices[head as usize];
-            let same = self.onlooker.has(Fault::EqualTaken) && cost == *g && *expanded_at == NONE;
+            // No walk without a ring costs over 65,520,000,000: no overflow.
+            let cost = self.head_cost(g + u64::from(cost));
+            let [g, expanded_at] = &mut self.wide[head as usize];
+            let never = *expanded_at == UNREACHED;
+            let same = self.onlooker.has(Fault::EqualTaken) && cost == *g && never;
             if cost < *g || same {
                 *g = cost;
+                let [predecessor, marks] = &mut self.vertices[head as usize];
                 *predecessor = vertex as u32;
                 let hold = *marks & ANCHOR_MARK != 0 && !self.onlooker.has(Fault::OpenAgain);
                 *marks |= if hold { HELD } else { OPEN };
@@ -452,20 +502,25 @@ impl<O: Onlooker> Search<'_, O> {
     }
 
     /// The true sum of the traced walk and its length in vertices.
-    fn trace(&self) -> (u32, u32) {
+    fn trace(&self) -> (u64, u32) {
         let (mut cost, mut length) = (0, 1);
         let mut head = self.goal as u32;
         for tail in traced(self.vertices, self.goal).skip(1) {
-            cost += self.graph.cost_between(tail, head);
+            cost += u64::from(self.graph.cost_between(tail, head));
             length += 1;
-            assert!(length as usize <= self.vertices.len(), "a ring is traced");
             head = tail;
+        }
+        let [before, _] = self.vertices[head as usize];
+        let ring = before != NONE && !self.onlooker.has(Fault::NarrowG);
+        assert!(!ring, "a ring is traced");
+        if self.onlooker.has(Fault::NarrowTrace) {
+            cost = u64::from(cost as u32);
         }
         (cost, length)
     }
 
     /// Keeps the traced walk: it is written to route memory.
-    fn keep(&mut self, cost: u32, length: u32) {
+    fn keep(&mut self, cost: u64, length: u32) {
         let (walk, rest) = self.route.split_at_mut(length as usize);
         rest.fill(NONE);
         let places = walk.iter_mut().rev();
@@ -484,14 +539,21 @@ impl<O: Onlooker> Search<'_, O> {
         if self.onlooker.has(Fault::AnchorMarksStay) {
             stay |= ANCHOR_MARK;
         }
-        for [_, expanded_at, _, marks] in self.vertices.iter_mut() {
+        for [_, marks] in self.vertices.iter_mut() {
             *marks &= stay;
             if *marks & HELD != 0 && !self.onlooker.has(Fault::Forgotten) {
                 *marks = *marks & !HELD | OPEN;
             }
-            if self.onlooker.has(Fault::ExpandedForgotten) {
-                *expanded_at = NONE;
-            }
+        }
+        if self.onlooker.has(Fault::ExpandedForgotten) {
+            self.forget_expansions();
+        }
+    }
+
+    /// What a faulty planner does at a round's beginning.
+    fn forget_expansions(&mut self) {
+        for [_, expanded_at] in self.wide.iter_mut() {
+            *expanded_at = UNREACHED;
         }
     }
 
@@ -514,13 +576,13 @@ impl<O: Onlooker> Search<'_, O> {
 
     /// Whether step 1 finishes a round, m being the anchor's least key.
     fn is_finished(&self, m: u64, factors: Factors) -> bool {
-        let [goal_cost, ..] = self.vertices[self.goal];
+        let [goal_cost, _] = self.wide[self.goal];
         let factor = match self.onlooker.has(Fault::FinishByW1) {
             true => factors.w1,
             false => factors.w2,
         };
         let strict = u64::from(self.onlooker.has(Fault::FinishStrict));
-        goal_cost != NONE && 10_000 * u64::from(goal_cost) + strict <= factor * m
+        goal_cost != unreached(&self.onlooker) && 10_000 * goal_cost + strict <= factor * m
     }
 
     /// The least key of the guide with the turn, and its vertex.
@@ -537,9 +599,9 @@ impl<O: Onlooker> Search<'_, O> {
 
     /// A turn: a vertex is marked, noted and expanded for a table.
     fn take_turn(&mut self, round: u32, table: usize, vertex: usize, no_line: bool) {
-        let [g, _, _, marks] = &mut self.vertices[vertex];
+        let [_, marks] = &mut self.vertices[vertex];
         *marks |= if table > 0 { GUIDE_MARK } else { ANCHOR_MARK };
-        let (g, turn) = (*g, self.turns + 1);
+        let ([g, _], turn) = (self.wide[vertex], self.turns + 1);
         self.onlooker.observe(|| Event::Turn {
             round,
             turn,
@@ -566,7 +628,7 @@ impl<O: Onlooker> Search<'_, O> {
 
     /// Nothing is open any more.
     fn no_route(&mut self, round: u32) -> End {
-        let held = |[_, _, _, marks]: &&Vertex| marks & HELD != 0;
+        let held = |[_, marks]: &&Vertex| marks & HELD != 0;
         let held = self.vertices.iter().filter(held).count() as u32;
         let turns = self.turns;
         self.onlooker
@@ -619,7 +681,7 @@ impl<O: Onlooker> Search<'_, O> {
     /// or strictly cheaper.
     fn finish_round(&mut self, round: u32) {
         let (mut cost, length) = self.trace();
-        let [goal_cost, ..] = self.vertices[self.goal];
+        let [goal_cost, _] = self.wide[self.goal];
         if self.onlooker.has(Fault::CostOfGoal) {
             cost = goal_cost;
         }
@@ -636,7 +698,7 @@ impl<O: Onlooker> Search<'_, O> {
                 kept,
             }
         });
-        let better = |kept: u32| {
+        let better = |kept: u64| {
             cost < kept
                 || self.onlooker.has(Fault::LastKept)
                 || self.onlooker.has(Fault::EqualKept) && cost == kept
@@ -704,7 +766,7 @@ pub fn plan_observed(
 }
 
 fn plan_with<O: Onlooker>(request: &Request, memory: Memory, onlooker: O) -> Answer {
-    let room = (memory.route.len(), memory.work.len());
+    let room = Room::of(&memory);
     let counts = match admitted(request, room, &onlooker) {
         Ok(counts) => counts,
         Err(Refusal { number, position }) => return Answer::Refused { number, position },
@@ -732,11 +794,35 @@ fn plan_with<O: Onlooker>(request: &Request, memory: Memory, onlooker: O) -> Ans
     }
 }
 
-/// V and M of a call that no row of the paper's table refuses; the room is
-/// that of route and work memory.
+/// The room of lent memory that row 11 looks at.
+#[derive(Clone, Copy, Debug)]
+pub struct Room {
+    pub route: usize,
+    pub work: usize,
+    pub wide: usize,
+}
+
+impl Room {
+    pub fn of(memory: &Memory) -> Room {
+        Room {
+            route: memory.route.len(),
+            work: memory.work.len(),
+            wide: memory.wide.len(),
+        }
+    }
+
+    /// Whether it is too little for V vertices and M edges.
+    pub fn is_short(&self, vertices: usize, edges: usize) -> bool {
+        self.route < vertices
+            || self.work < work_words(vertices, edges)
+            || self.wide < wide_numbers(vertices)
+    }
+}
+
+/// V and M of a call that no row of the paper's table refuses.
 fn admitted(
     request: &Request,
-    (route, work): (usize, usize),
+    room: Room,
     onlooker: &impl Onlooker,
 ) -> Result<(usize, usize), Refusal> {
     let refused = |number, position| Err(Refusal { number, position });
@@ -756,7 +842,7 @@ fn admitted(
     if bad_schedule(request.schedule) {
         return refused(10, 0);
     }
-    if route < vertices || work < work_words(vertices, edges) {
+    if room.is_short(vertices, edges) {
         return refused(11, 0);
     }
     if request.anchor[request.goal as usize] != 0 {
@@ -783,6 +869,14 @@ fn first_broken(request: &Request, onlooker: &impl Onlooker) -> Option<usize> {
     broken
 }
 
+/// What stands for not reached and never expanded.
+fn unreached(onlooker: &impl Onlooker) -> u64 {
+    match onlooker.has(Fault::NarrowUnreached) {
+        true => u64::from(u32::MAX),
+        false => UNREACHED,
+    }
+}
+
 /// The search of an admitted call with V vertices and M edges, at its
 /// beginning.
 fn loaded<'a, O: Onlooker>(
@@ -794,11 +888,16 @@ fn loaded<'a, O: Onlooker>(
     let (vertices, edges) = counts;
     let work = &mut memory.work[..work_words(vertices, edges)];
     let (graph, state) = Graph::load(request.bytes, counts, work);
+    let (wide, _) = memory.wide[..wide_numbers(vertices)].as_chunks_mut();
+    let (start, unreached) = (request.start as usize, unreached(&onlooker));
     state.fill(NOT_REACHED);
-    state[request.start as usize] = [0, NONE, NONE, OPEN];
+    state[start] = [NONE, OPEN];
+    wide.fill([unreached; 2]);
+    wide[start] = [0, unreached];
     Search {
         graph,
         vertices: state,
+        wide,
         goal: request.goal as usize,
         barred: request.barred,
         anchor: request.anchor,

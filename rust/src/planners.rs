@@ -79,6 +79,7 @@ pub struct Outcome {
     pub route: Vec<u32>,
     pub log: Vec<u32>,
     pub work: Vec<u32>,
+    pub wide: Vec<u64>,
     /// The plan's bytes; anchor table, guide sheets and schedule.
     pub bytes: Vec<u8>,
     pub numbers: [Vec<u32>; 3],
@@ -91,13 +92,39 @@ impl Outcome {
     }
 }
 
-/// Route, log and work memory of a job as they are before a call.
-pub fn lent_memory(job: &Job, salt: u64) -> [Guarded<u32>; 3] {
-    [
-        Guarded::with_room(job.route_room, 3 * salt),
-        Guarded::with_room(job.log_room, 3 * salt + 1),
-        Guarded::with_room(job.work_room, 3 * salt + 2),
-    ]
+/// The memory that a job's call is lent.
+pub struct Lent {
+    pub route: Guarded<u32>,
+    pub log: Guarded<u32>,
+    pub work: Guarded<u32>,
+    pub wide: Guarded<u64>,
+}
+
+impl Lent {
+    /// The memory as it is before a call.
+    pub fn before(job: &Job, salt: u64) -> Lent {
+        Lent {
+            route: Guarded::with_room(job.route_room, 3 * salt),
+            log: Guarded::with_room(job.log_room, 3 * salt + 1),
+            work: Guarded::with_room(job.work_room, 3 * salt + 2),
+            wide: Guarded::with_room(job.wide_room, salt),
+        }
+    }
+
+    /// Whether a call left all of it as it was.
+    pub fn is_untouched(&self, outcome: &Outcome) -> bool {
+        let words = [&self.route, &self.log, &self.work].map(|lent| &lent.all);
+        words == [&outcome.route, &outcome.log, &outcome.work] && self.wide.all == outcome.wide
+    }
+
+    fn memory(&mut self) -> Memory<'_> {
+        Memory {
+            route: self.route.lent_mut(),
+            log: self.log.lent_mut(),
+            work: self.work.lent_mut(),
+            wide: self.wide.lent_mut(),
+        }
+    }
 }
 
 /// Runs a job in guarded memory; `salt` selects the pattern that fills it.
@@ -106,7 +133,7 @@ pub fn run(planner: &dyn Planner, job: &Job, salt: u64) -> Outcome {
     let anchor = Guarded::with_contents(&job.anchor, salt);
     let guides = Guarded::with_contents(&job.guides, salt);
     let schedule = Guarded::with_contents(&job.schedule, salt);
-    let [mut route, mut log, mut work] = lent_memory(job, salt);
+    let mut lent = Lent::before(job, salt);
     let request = Request {
         bytes: bytes.lent(),
         anchor: anchor.lent(),
@@ -114,17 +141,13 @@ pub fn run(planner: &dyn Planner, job: &Job, salt: u64) -> Outcome {
         schedule: schedule.lent(),
         ..job.request()
     };
-    let memory = Memory {
-        route: route.lent_mut(),
-        log: log.lent_mut(),
-        work: work.lent_mut(),
-    };
-    let figures = planner.plan(&request, memory);
+    let figures = planner.plan(&request, lent.memory());
     Outcome {
         figures,
-        route: route.all,
-        log: log.all,
-        work: work.all,
+        route: lent.route.all,
+        log: lent.log.all,
+        work: lent.work.all,
+        wide: lent.wide.all,
         bytes: bytes.all,
         numbers: [anchor.all, guides.all, schedule.all],
     }
@@ -239,6 +262,7 @@ impl<'a> Comparison<'a> {
             ("route memory", left.route != right.route),
             ("log memory", left.log != right.log),
             ("work memory", left.work != right.work),
+            ("wide memory", left.wide != right.wide),
             ("what a call only reads", left != right),
         ];
         let (name, _) = differing.into_iter().find(|&(_, differs)| differs)?;
@@ -345,16 +369,60 @@ mod tests {
         assert_eq!(outcome.route.len(), job.route_room + 2 * GUARD);
         assert_eq!(outcome.log.len(), 3 + 2 * GUARD);
         assert_eq!(outcome.work.len(), job.work_room + 2 * GUARD);
-        let [route, log, work] = lent_memory(&job, 4);
-        for index in 0..GUARD {
-            for (after, before) in [
-                (&outcome.route, &route.all),
-                (&outcome.log, &log.all),
-                (&outcome.work, &work.all),
-            ] {
-                assert_eq!(after[index], before[index]);
-                let last = after.len() - 1 - index;
-                assert_eq!(after[last], before[last]);
+        assert_eq!(outcome.wide.len(), job.wide_room + 2 * GUARD);
+        let before = Lent::before(&job, 4);
+        fn guards<T: Copy>(all: &[T]) -> [&[T]; 2] {
+            [&all[..GUARD], &all[all.len() - GUARD..]]
+        }
+        assert_eq!(guards(&outcome.route), guards(&before.route.all));
+        assert_eq!(guards(&outcome.log), guards(&before.log.all));
+        assert_eq!(guards(&outcome.work), guards(&before.work.all));
+        assert_eq!(guards(&outcome.wide), guards(&before.wide.all));
+        assert!(!before.is_untouched(&outcome));
+    }
+
+    /// The second planner, and one bit of wide memory changed after it.
+    struct Changed {
+        index: usize,
+        bit: u32,
+    }
+
+    impl Planner for Changed {
+        fn plan(&self, request: &Request, memory: Memory) -> Figures {
+            let Memory {
+                route,
+                log,
+                work,
+                wide,
+            } = memory;
+            let lent = Memory {
+                route,
+                log,
+                work,
+                wide: &mut wide[..],
+            };
+            let figures = SecondPlanner.plan(request, lent);
+            wide[self.index] ^= 1 << self.bit;
+            figures
+        }
+
+        fn bench_text(&self, job: &[u8], text: &mut [u8]) -> usize {
+            SecondPlanner.bench_text(job, text)
+        }
+    }
+
+    /// A change of one bit is seen in every number of wide memory, also in
+    /// those past the ones that the call needs.
+    #[test]
+    fn every_wide_number_is_compared() {
+        let (_, mut job) = jobs::random_job(&mut Random::new(2), jobs::Shape::Grid);
+        job.wide_room += 3;
+        for index in 0..job.wide_room {
+            for bit in [0, 31, 32, 63] {
+                let changed = Changed { index, bit };
+                let mut comparison = Comparison::new(&changed, &SecondPlanner);
+                let words = comparison.job_differs(&job, None).expect("a difference");
+                assert!(words.starts_with("wide memory differ: "), "{words}");
             }
         }
     }
@@ -368,6 +436,13 @@ mod tests {
                 rounds: 3,
                 turns: 4,
                 bound: 5,
+            },
+            Answer::Route {
+                cost: 65_520_000_000,
+                length: 4_096,
+                rounds: 16,
+                turns: u32::MAX,
+                bound: 100_000_000,
             },
             Answer::NoRoute { turns: 7 },
             Answer::Unfinished { turns: 0 },
@@ -384,7 +459,9 @@ mod tests {
             [2, 0, 0, 1, 0, 0, 7, 0],
             [3, 8, 0, 0, 0, 0, 1, 0],
             [4, 8, 0, 0, 0, 0, 0, 0],
-            [0, 0, 0, 1 << 32, 1, 1, 1, 1],
+            [0, 0, 0, 1, 1 << 32, 1, 1, 1],
+            [0, 0, 0, 1, 1, 1, 1, 1 << 32],
+            [1 << 32, 0, 0, 1, 1, 1, 1, 1],
         ] {
             assert_eq!(Answer::of_figures(figures), None);
         }

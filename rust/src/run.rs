@@ -3,7 +3,7 @@
 //! planner call.
 
 use crate::bench_text::{answer_text, logged, refused};
-use crate::planner::{work_words, Answer, Memory, Request, HOUSE_SCHEDULE};
+use crate::planner::{wide_numbers, work_words, Answer, Memory, Request, HOUSE_SCHEDULE};
 use crate::planners::{printed, Planner};
 use crate::reference::{MOST_EDGES, MOST_VERTICES};
 use crate::refusals::Taker;
@@ -18,8 +18,8 @@ pub fn run(planner: &dyn Planner, job: &TextJob) -> String {
 }
 
 /// The planner call that a job asks, with memory enough for all that it can
-/// give: route and work memory for the plan, and a log for 2·V turns in each
-/// round. The numbers of the tables are the anchor table's first, as many as
+/// give: route, work and wide memory for the plan, and a log for 2·V turns in
+/// each round. The numbers of the tables are the anchor table's first, as many as
 /// there are places. Bytes without the numbers of a call are refused as the
 /// bench program does it.
 pub fn call(planner: &dyn Planner, job: &TextJob) -> String {
@@ -39,6 +39,7 @@ pub fn call(planner: &dyn Planner, job: &TextJob) -> String {
     let mut route = vec![0; places];
     let mut log = vec![0; turns];
     let mut work = vec![0; work_words(places, lanes)];
+    let mut wide = vec![0; wide_numbers(places)];
     let request = Request {
         bytes: &lines.plan.bytes().expect("a job's plan has bytes"),
         start: lines.start.says,
@@ -54,6 +55,7 @@ pub fn call(planner: &dyn Planner, job: &TextJob) -> String {
         route: &mut route,
         log: &mut log,
         work: &mut work,
+        wide: &mut wide,
     };
     let figures = planner.plan(&request, memory);
     let answer = Answer::of_figures(figures).expect("figures of an answer");

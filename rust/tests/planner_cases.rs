@@ -2,7 +2,7 @@
 //! word.
 
 use secondcoop_tests::generate;
-use secondcoop_tests::planner::{Answer, Memory, Request, NONE};
+use secondcoop_tests::planner::{Answer, Memory, Request, NONE, UNREACHED};
 use secondcoop_tests::planners::{Library, Planner, SecondPlanner};
 
 /// Plan A of the paper.
@@ -42,13 +42,15 @@ const JOB_A: Request = Request {
 struct Lent {
     route: [u32; 6],
     log: [u32; 6],
-    work: [u32; 35],
+    work: [u32; 27],
+    wide: [u64; 10],
 }
 
 const UNTOUCHED: Lent = Lent {
     route: [77; 6],
     log: [78; 6],
-    work: [79; 35],
+    work: [79; 27],
+    wide: [80; 10],
 };
 
 fn plan(planner: &dyn Planner, request: &Request) -> (Answer, Lent) {
@@ -57,6 +59,7 @@ fn plan(planner: &dyn Planner, request: &Request) -> (Answer, Lent) {
         route: &mut lent.route,
         log: &mut lent.log,
         work: &mut lent.work,
+        wide: &mut lent.wide,
     };
     let figures = planner.plan(request, memory);
     let answer = Answer::of_figures(figures).expect("figures of an answer");
@@ -87,13 +90,14 @@ fn job_a_word_for_word() {
                 1, 2, 2, 3, // heads
                 1, 4, 2, 3, // costs
                 0, 0, 0, 0, // classes
-                0, 0, NONE, 0, // vertex 0, its guide mark gone with round one
-                1, 1, 0, 2, // vertex 1, anchor mark
-                3, 3, 1, 1, // vertex 2, guide mark
-                6, NONE, 2, 4, // vertex 3, open
+                NONE, 0, // vertex 0, its guide mark gone with round one
+                0, 2, // vertex 1, anchor mark
+                1, 1, // vertex 2, guide mark
+                2, 4, // vertex 3, open
                 79, 79,
             ];
             assert_eq!(lent.work, work);
+            assert_eq!(lent.wide, [0, 0, 1, 1, 3, 3, 6, UNREACHED, 80, 80]);
         }
     });
 }
@@ -130,10 +134,9 @@ fn job_a_with_budget_2() {
         assert_eq!(lent.route, [0, 2, 3, NONE, 77, 77]);
         assert_eq!(lent.log, [65_536, 65_538, 78, 78, 78, 78]);
         // Round two began: the guide marks are gone.
-        let vertices = [
-            0, 0, NONE, 0, 1, NONE, 0, 4, 4, 4, 0, 0, 7, NONE, 2, 4, 79, 79,
-        ];
-        assert_eq!(lent.work[17..], vertices);
+        assert_eq!(lent.work[17..], [NONE, 0, 0, 4, 0, 0, 2, 4, 79, 79]);
+        let wide = [0, 0, 1, UNREACHED, 4, 4, 7, UNREACHED, 80, 80];
+        assert_eq!(lent.wide, wide);
     });
 }
 
@@ -144,15 +147,18 @@ fn job_a_unfinished() {
         assert_eq!(answer, Answer::Unfinished { turns: 1 });
         assert_eq!(lent.route, [77; 6]);
         assert_eq!(lent.log, [65_536, 78, 78, 78, 78, 78]);
-        let vertices = [
-            0, 0, NONE, 1, 1, NONE, 0, 4, 4, NONE, 0, 4, NONE, NONE, NONE, 0, 79, 79,
-        ];
-        assert_eq!(lent.work[17..], vertices);
+        assert_eq!(lent.work[17..], [NONE, 1, 0, 4, 0, 4, NONE, 0, 79, 79]);
+        assert_eq!(lent.wide[..6], [0, 0, 1, UNREACHED, 4, UNREACHED]);
+        assert_eq!(lent.wide[6..], [UNREACHED, UNREACHED, 80, 80]);
 
         let (answer, lent) = job_a(planner, 0);
         assert_eq!(answer, Answer::Unfinished { turns: 0 });
         assert_eq!(lent.log, [78; 6]);
-        assert_eq!(lent.work[17..21], [0, NONE, NONE, 4]);
+        assert_eq!(lent.work[17..19], [NONE, 4]);
+        assert_eq!(lent.work[19..], [NONE, 0, NONE, 0, NONE, 0, 79, 79]);
+        assert_eq!(lent.wide[..2], [0, UNREACHED]);
+        assert_eq!(lent.wide[2..8], [UNREACHED; 6]);
+        assert_eq!(lent.wide[8..], [80, 80]);
     });
 }
 
@@ -178,9 +184,10 @@ fn no_route() {
             assert_eq!(answer, Answer::NoRoute { turns: 1 });
             assert_eq!(lent.route, [77; 6]);
             assert_eq!(lent.log, [0, 78, 78, 78, 78, 78]);
-            let work = [0, 0, 0, 0, 0, NONE, 2, NONE, NONE, NONE, 0, 79];
-            assert_eq!(lent.work[..12], work);
-            assert_eq!(lent.work[12..], [79; 23]);
+            assert_eq!(lent.work[..8], [0, 0, 0, NONE, 2, NONE, 0, 79]);
+            assert_eq!(lent.work[8..], [79; 19]);
+            assert_eq!(lent.wide[..4], [0, 0, UNREACHED, UNREACHED]);
+            assert_eq!(lent.wide[4..], [80; 6]);
         }
     });
 }
@@ -215,7 +222,12 @@ fn start_is_goal() {
             assert_eq!(answer, expected);
             assert_eq!(lent.route, [1, NONE, NONE, NONE, 77, 77]);
             assert_eq!(lent.log, [78; 6]);
-            assert_eq!(lent.work[21..25], [0, NONE, NONE, 4]);
+            assert_eq!(
+                lent.work[17..],
+                [NONE, 0, NONE, 4, NONE, 0, NONE, 0, 79, 79]
+            );
+            let u = UNREACHED;
+            assert_eq!(lent.wide, [u, u, 0, u, u, u, u, u, 80, 80]);
         }
     });
 }
@@ -256,13 +268,15 @@ fn a_barred_class_is_not_used() {
             1, 2, 2, 3, // heads
             1, 4, 2, 3, // costs
             1, 0, 0, 0, // classes
-            0, 0, NONE, 0, // vertex 0
-            NONE, NONE, NONE, 0, // vertex 1, not reached
-            4, 4, 0, 0, // vertex 2
-            7, NONE, 2, 4, // vertex 3, open
+            NONE, 0, // vertex 0
+            NONE, 0, // vertex 1, not reached
+            0, 0, // vertex 2
+            2, 4, // vertex 3, open
             79, 79,
         ];
         assert_eq!(lent.work, work);
+        let u = UNREACHED;
+        assert_eq!(lent.wide, [0, 0, u, u, 4, 4, 7, u, 80, 80]);
         // Where another class is barred, all is as in job A.
         for barred in [0, 1 << 2, 1 << 7, 0b1111_1100] {
             let (answer, lent) = plan(planner, &Request { barred, ..request });
@@ -297,27 +311,38 @@ fn no_route_where_every_edge_is_barred() {
                 let first = 65_536 * guide_count as u32;
                 assert_eq!(lent.log, [first, 78, 78, 78, 78, 78]);
                 assert_eq!(lent.work[13..17], classes.map(u32::from));
-                assert_eq!(lent.work[21..33], [NONE, NONE, NONE, 0].repeat(3));
+                assert_eq!(lent.work[19..25], [NONE, 0].repeat(3));
+                assert_eq!(lent.wide[..2], [0, 0]);
+                assert_eq!(lent.wide[2..8], [UNREACHED; 6]);
             }
         }
     });
 }
 
-/// The refusal of a call on so much route and work memory, which it must
-/// leave untouched, or (0, 0).
-fn refused(planner: &dyn Planner, request: &Request, route: usize, work: usize) -> (u32, usize) {
+/// The lengths of route, work and wide memory that plan A needs.
+const ROOM_A: [usize; 3] = [4, 25, 8];
+
+/// The refusal of a call on so much route, work and wide memory, which it must
+/// leave untouched, or (0, 0); the memory past these lengths it always leaves.
+fn refused(planner: &dyn Planner, request: &Request, room: [usize; 3]) -> (u32, usize) {
     let mut lent = UNTOUCHED;
+    let [route, work, wide] = room;
     let memory = Memory {
         route: &mut lent.route[..route],
         log: &mut lent.log,
         work: &mut lent.work[..work],
+        wide: &mut lent.wide[..wide],
     };
     let figures = planner.plan(request, memory);
+    assert_eq!(lent.route[route..], UNTOUCHED.route[route..]);
+    assert_eq!(lent.work[work..], UNTOUCHED.work[work..]);
+    assert_eq!(lent.wide[wide..], UNTOUCHED.wide[wide..]);
     match Answer::of_figures(figures).expect("figures of an answer") {
         Answer::Refused { number, position } => {
             assert_eq!(lent.route, UNTOUCHED.route);
             assert_eq!(lent.log, UNTOUCHED.log);
             assert_eq!(lent.work, UNTOUCHED.work);
+            assert_eq!(lent.wide, UNTOUCHED.wide);
             (number, position)
         }
         _ => (0, 0),
@@ -339,16 +364,26 @@ fn plan_bytes_are_refused() {
                 schedule: &[1],
                 budget: 0,
             };
-            refused(planner, &request, 0, 0)
+            refused(planner, &request, [0; 3])
         };
         assert_eq!(refused(&[]), (1, 0));
         assert_eq!(refused(&[0x80, 0x00]), (1, 0));
         assert_eq!(refused(&[0x04]), (1, 1));
-        assert_eq!(refused(&[2, 1, 0, 1, 0xC1, 0x84, 0x3D, 8]), (5, 4));
-        assert_eq!(refused(&[2, 1, 0, 1, 0xC0, 0x84, 0x3D, 8]), (15, 7));
-        assert_eq!(refused(&[2, 1, 0, 1, 0xC0, 0x84, 0x3D, 0x87, 0]), (1, 7));
-        assert_eq!(refused(&[2, 1, 0, 1, 0xC0, 0x84, 0x3D]), (1, 7));
-        assert_eq!(refused(&[2, 1, 0, 1, 0xC0, 0x84, 0x3D, 7]), (8, 0));
+        // A cost of 16,000,001; one of 16,000,000, and what stands behind it.
+        assert_eq!(refused(&[2, 1, 0, 1, 0x81, 0xC8, 0xD0, 7, 8]), (5, 4));
+        let with = |behind: &[u8]| refused(&[&[2, 1, 0, 1, 0x80, 0xC8, 0xD0, 7], behind].concat());
+        assert_eq!(with(&[8]), (15, 8));
+        assert_eq!(with(&[0x87, 0]), (1, 8));
+        assert_eq!(with(&[]), (1, 8));
+        assert_eq!(with(&[7]), (8, 0));
+        // What was refused as a number of four groups is one, and what was
+        // refused as a cost above 1,000,000 is one.
+        assert_eq!(refused(&[0x80, 0x80, 0x80, 1, 0]), (2, 0));
+        assert_eq!(refused(&[2, 0x80, 0x80, 0x80, 1]), (3, 1));
+        assert_eq!(refused(&[2, 1, 0x80, 0x80, 0x80, 1]), (4, 2));
+        assert_eq!(refused(&[2, 1, 0, 0x80, 0x80, 0x80, 1]), (4, 3));
+        assert_eq!(refused(&[2, 1, 0, 1, 0x80, 0x80, 0x80, 0x80, 1]), (1, 4));
+        assert_eq!(refused(&[2, 1, 0, 1, 0xC1, 0x84, 0x3D, 7]), (8, 0));
         // A class above 7 at each edge, at its first byte.
         for edge in 0..4 {
             for class in [8, 9, 127] {
@@ -361,33 +396,44 @@ fn plan_bytes_are_refused() {
 }
 
 #[test]
-fn a_cost_of_1_000_000_is_planned() {
+fn costs_up_to_16_000_000_are_planned() {
     on_both(|planner| {
-        let request = Request {
-            bytes: &[2, 1, 0, 1, 0xC0, 0x84, 0x3D, 0],
-            goal: 1,
-            anchor: &[1_000_000, 0],
-            guides: &[],
-            guide_count: 0,
-            ..JOB_A
-        };
-        let (answer, lent) = plan(planner, &request);
-        let expected = Answer::Route {
-            cost: 1_000_000,
-            length: 2,
-            rounds: 2,
-            turns: 1,
-            bound: 10_000,
-        };
-        assert_eq!(answer, expected);
-        assert_eq!(lent.route, [0, 1, 77, 77, 77, 77]);
+        for cost in [1_000_000, 1_000_001, 15_999_999, 16_000_000, 16_000_001] {
+            let mut bytes = vec![2, 1, 0, 1];
+            generate::push_number(&mut bytes, cost);
+            bytes.push(0);
+            let request = Request {
+                bytes: &bytes,
+                goal: 1,
+                anchor: &[cost, 0],
+                guides: &[],
+                guide_count: 0,
+                ..JOB_A
+            };
+            if cost > 16_000_000 {
+                assert_eq!(refused(planner, &request, ROOM_A), (5, 4));
+                continue;
+            }
+            let (answer, lent) = plan(planner, &request);
+            let expected = Answer::Route {
+                cost: cost.into(),
+                length: 2,
+                rounds: 2,
+                turns: 1,
+                bound: 10_000,
+            };
+            assert_eq!(answer, expected);
+            assert_eq!(lent.route, [0, 1, 77, 77, 77, 77]);
+            assert_eq!(lent.work[..6], [0, 1, 1, 1, cost, 0]);
+            assert_eq!(lent.wide[..4], [0, 0, cost.into(), UNREACHED]);
+        }
     });
 }
 
 #[test]
 fn the_anchor_table_is_checked() {
     on_both(|planner| {
-        let refused = |anchor: &[u32]| refused(planner, &Request { anchor, ..JOB_A }, 4, 33);
+        let refused = |anchor: &[u32]| refused(planner, &Request { anchor, ..JOB_A }, ROOM_A);
         assert_eq!(refused(&[7, 5, 3, 0]), (13, 0));
         assert_eq!(refused(&[6, 5, 3, 1]), (12, 0));
         assert_eq!(refused(&[6, 5, 3, 0]), (0, 0));
@@ -407,7 +453,7 @@ fn the_anchor_table_is_checked_on_barred_edges() {
                     anchor,
                     ..JOB_A
                 };
-                refused(planner, &request, 4, 33)
+                refused(planner, &request, ROOM_A)
             };
             assert_eq!(refused(&[7, 5, 3, 0]), (13, 0));
             assert_eq!(refused(&[4, 5, 4, 0]), (13, 3));
@@ -427,7 +473,7 @@ fn a_barred_number_above_255_is_refused() {
                 guide_count,
                 ..JOB_A
             };
-            refused(planner, &request, 4, 33)
+            refused(planner, &request, ROOM_A)
         };
         for barred in 0..=255 {
             assert_eq!(refused(barred, 1), (0, 0));
@@ -451,10 +497,10 @@ fn a_barred_number_above_255_is_refused() {
 
 #[test]
 fn each_refusal_of_the_call_in_order() {
-    type Call<'a> = (u32, u32, &'a [u32], &'a [u32], u32, &'a [u32], usize, usize);
+    type Call<'a> = (u32, u32, &'a [u32], &'a [u32], u32, &'a [u32], [usize; 3]);
     on_both(|planner| {
         let refused = |call: Call| {
-            let (start, goal, anchor, guides, guide_count, schedule, route, work) = call;
+            let (start, goal, anchor, guides, guide_count, schedule, room) = call;
             let request = Request {
                 start,
                 goal,
@@ -464,36 +510,65 @@ fn each_refusal_of_the_call_in_order() {
                 schedule,
                 ..JOB_A
             };
-            refused(planner, &request, route, work)
+            refused(planner, &request, room)
         };
         let (good, bad): (&[u32], &[u32]) = (&[6, 5, 3, 0], &[6, 5, 3, 1]);
         let rises: &[u32] = &[100, 100, 100, 101];
-        assert_eq!(refused((4, 3, bad, &[], 9, rises, 0, 0)), (8, 0));
-        assert_eq!(refused((0, 4, bad, &[], 9, rises, 0, 0)), (8, 0));
-        assert_eq!(refused((0, 3, bad, &[], 9, rises, 0, 0)), (9, 0));
-        assert_eq!(refused((0, 3, bad, &[0; 36], 9, rises, 0, 0)), (9, 0));
-        assert_eq!(refused((0, 3, &bad[..3], &[], 0, rises, 0, 0)), (9, 0));
-        assert_eq!(refused((0, 3, bad, &[0; 3], 1, rises, 0, 0)), (9, 0));
-        assert_eq!(refused((0, 3, bad, &[0; 5], 1, rises, 0, 0)), (9, 0));
-        assert_eq!(refused((0, 3, bad, &[0; 4], 0, rises, 0, 0)), (9, 0));
-        assert_eq!(refused((0, 3, bad, &[], u32::MAX, rises, 0, 0)), (9, 0));
-        assert_eq!(refused((0, 3, bad, &[], 1 << 30, rises, 0, 0)), (9, 0));
-        assert_eq!(refused((0, 3, bad, &[], 0, rises, 0, 0)), (10, 0));
-        assert_eq!(refused((0, 3, bad, &[], 0, &[100], 0, 0)), (10, 0));
-        assert_eq!(refused((0, 3, bad, &[], 0, &[99, 100], 0, 0)), (10, 0));
-        assert_eq!(refused((0, 3, bad, &[], 0, &[100, 10_001], 0, 0)), (10, 0));
-        assert_eq!(refused((0, 3, bad, &[], 0, &[100; 34], 0, 0)), (10, 0));
-        assert_eq!(refused((0, 3, bad, &[], 0, &[100; 32], 3, 33)), (11, 0));
-        assert_eq!(refused((0, 3, bad, &[], 0, &[], 4, 32)), (11, 0));
-        assert_eq!(refused((0, 3, bad, &[], 0, &[], 4, 33)), (12, 0));
+        assert_eq!(refused((4, 3, bad, &[], 9, rises, [0; 3])), (8, 0));
+        assert_eq!(refused((0, 4, bad, &[], 9, rises, [0; 3])), (8, 0));
+        assert_eq!(refused((0, 3, bad, &[], 9, rises, [0; 3])), (9, 0));
+        assert_eq!(refused((0, 3, bad, &[0; 36], 9, rises, [0; 3])), (9, 0));
+        assert_eq!(refused((0, 3, &bad[..3], &[], 0, rises, [0; 3])), (9, 0));
+        assert_eq!(refused((0, 3, bad, &[0; 3], 1, rises, [0; 3])), (9, 0));
+        assert_eq!(refused((0, 3, bad, &[0; 5], 1, rises, [0; 3])), (9, 0));
+        assert_eq!(refused((0, 3, bad, &[0; 4], 0, rises, [0; 3])), (9, 0));
+        assert_eq!(refused((0, 3, bad, &[], u32::MAX, rises, [0; 3])), (9, 0));
+        assert_eq!(refused((0, 3, bad, &[], 1 << 30, rises, [0; 3])), (9, 0));
+        assert_eq!(refused((0, 3, bad, &[], 0, rises, [0; 3])), (10, 0));
+        assert_eq!(refused((0, 3, bad, &[], 0, &[100], [0; 3])), (10, 0));
+        assert_eq!(refused((0, 3, bad, &[], 0, &[99, 100], [0; 3])), (10, 0));
+        assert_eq!(
+            refused((0, 3, bad, &[], 0, &[100, 10_001], [0; 3])),
+            (10, 0)
+        );
+        assert_eq!(refused((0, 3, bad, &[], 0, &[100; 34], [0; 3])), (10, 0));
+        assert_eq!(
+            refused((0, 3, bad, &[], 0, &[100; 32], [3, 25, 8])),
+            (11, 0)
+        );
+        assert_eq!(refused((0, 3, bad, &[], 0, &[], [4, 24, 8])), (11, 0));
+        assert_eq!(refused((0, 3, bad, &[], 0, &[], [4, 25, 7])), (11, 0));
+        assert_eq!(refused((0, 3, bad, &[], 0, &[], [6, 27, 7])), (11, 0));
+        assert_eq!(refused((0, 3, bad, &[], 0, &[], [0; 3])), (11, 0));
+        assert_eq!(refused((0, 3, bad, &[], 0, &[], ROOM_A)), (12, 0));
         let steep: &[u32] = &[7, 5, 3, 0];
-        assert_eq!(refused((0, 3, steep, &[], 0, &[], 4, 33)), (13, 0));
+        assert_eq!(refused((0, 3, steep, &[], 0, &[], ROOM_A)), (13, 0));
         let steep: &[u32] = &[6, 6, 4, 0];
-        assert_eq!(refused((0, 3, steep, &[], 0, &[], 4, 33)), (13, 3));
+        assert_eq!(refused((0, 3, steep, &[], 0, &[], ROOM_A)), (13, 3));
         let steep: &[u32] = &[5, NONE, NONE, 0];
-        assert_eq!(refused((0, 3, steep, &[], 0, &[], 4, 33)), (13, 3));
-        assert_eq!(refused((0, 3, good, &[0; 32], 8, &[], 4, 33)), (0, 0));
-        assert_eq!(refused((0, 3, good, &[], 0, &[], 4, 33)), (0, 0));
+        assert_eq!(refused((0, 3, steep, &[], 0, &[], ROOM_A)), (13, 3));
+        assert_eq!(refused((0, 3, good, &[0; 32], 8, &[], ROOM_A)), (0, 0));
+        assert_eq!(refused((0, 3, good, &[], 0, &[], ROOM_A)), (0, 0));
+    });
+}
+
+/// Row 11 for every length of each kind of memory: under V words of route,
+/// 3V+1+3M of work or 2V numbers of wide memory, and no other.
+#[test]
+fn memory_of_every_length() {
+    on_both(|planner| {
+        for (kind, needed) in ROOM_A.into_iter().enumerate() {
+            for length in 0..=needed + 2 {
+                let mut room = [6, 27, 10];
+                room[kind] = length;
+                let expected = if length < needed { (11, 0) } else { (0, 0) };
+                assert_eq!(refused(planner, &JOB_A, room), expected, "{room:?}");
+                // Nothing else to spare.
+                let mut room = ROOM_A;
+                room[kind] = length;
+                assert_eq!(refused(planner, &JOB_A, room), expected, "{room:?}");
+            }
+        }
     });
 }
 

@@ -10,7 +10,8 @@ use std::str::FromStr;
 
 use secondcoop_tests::bench_text;
 use secondcoop_tests::events::Events;
-use secondcoop_tests::jobs;
+use secondcoop_tests::generate::Plan;
+use secondcoop_tests::jobs::{self, Job};
 use secondcoop_tests::planner::Answer;
 use secondcoop_tests::planners::{
     self, Comparison, Library, SecondPlanner, KINDS, NO_ROUTE, ROUTE, UNFINISHED,
@@ -49,10 +50,13 @@ fn seeded_jobs_are_planned_alike() {
     let wanted = asked("SECONDCOOP_JOBS").unwrap_or(JOBS);
     let mut comparison = Comparison::new(&Library, &SecondPlanner);
     let mut events = Events::default();
-    jobs::valid_jobs(seed(71), wanted / BUDGETS, &mut |_, job| {
+    let mut compare = |_: &Plan, job: &Job| {
         comparison.job(job, None);
         events.count(job);
-    });
+    };
+    jobs::valid_jobs(seed(71), wanted / BUDGETS, &mut compare);
+    // Long paths take longer: a few of them.
+    jobs::long_jobs(seed(78), wanted / BUDGETS / 200, &mut compare);
     comparison.report("seeded_jobs_are_planned_alike");
     for (name, count) in events.names() {
         println!("  {name}: {count}");
@@ -138,7 +142,7 @@ fn wild_jobs_are_answered_alike() {
 }
 
 /// 4,096 vertices, 32,768 edges, eight guides, sixteen rounds, costs near 32
-/// bits, and bench jobs of the greatest size.
+/// bits and the greatest, and bench jobs of the greatest size.
 #[test]
 fn jobs_at_the_limits_are_planned_alike() {
     let mut comparison = Comparison::new(&Library, &SecondPlanner);

@@ -5,9 +5,11 @@
 
 use secondcoop_tests::bench_text;
 use secondcoop_tests::jobs::{self, Job};
-use secondcoop_tests::planner::{self, Answer, Fault, Figures, Memory, Request, FAULTS, NONE};
+use secondcoop_tests::planner::{
+    self, Answer, Fault, Figures, Memory, Request, Room, FAULTS, NONE, UNREACHED,
+};
 use secondcoop_tests::planners::{write_text, Comparison, FaultyPlanner, Planner, SecondPlanner};
-use secondcoop_tests::reference;
+use secondcoop_tests::reference::{self, Refusal};
 use secondcoop_tests::text::TextJob;
 
 /// What is wrong with a call or with the printed text.
@@ -53,8 +55,16 @@ enum Border {
     RisingW2,
     /// Work memory one word short passes.
     WorkLimit,
-    /// Work memory of 5V+1+2M words passes.
+    /// Work memory of 3V+1+2M words passes.
     WorkWithoutClasses,
+    /// Work memory under 5V+1+3M words is refused.
+    WorkWithCosts,
+    /// Wide memory one number short passes.
+    WideLimit,
+    /// Wide memory of V numbers passes.
+    WideOfV,
+    /// Wide memory is not looked at.
+    WideAny,
     /// Route memory one word short passes.
     RouteLimit,
     /// The anchor's number at the goal is not looked at.
@@ -93,6 +103,24 @@ enum Border {
     WorkBeyond,
     /// Work memory is written before the anchor table is looked at.
     WorkAtRefusal,
+    /// g and the cost when last expanded change places.
+    SwappedWide,
+    /// All g stand before all costs when last expanded.
+    WideByKind,
+    /// Wide memory is not written.
+    WideUnwritten,
+    /// The upper halves of wide numbers are not written.
+    WideHalves,
+    /// The number after the needed wide memory is cleared.
+    WideBeyond,
+    /// Wide memory is written before the anchor table is looked at.
+    WideAtRefusal,
+    /// A cost of 16,000,001 passes as 16,000,000.
+    CostLimit,
+    /// A cost above 1,000,000 is refused.
+    OldCostLimit,
+    /// A plan number of four groups is refused as 1.
+    ThreeGroups,
     /// The text has no last line end.
     TextEnd,
     /// The text says vertex.
@@ -119,7 +147,7 @@ enum Border {
     JobBarred,
 }
 
-const BORDER: [Border; 51] = [
+const BORDER: [Border; 64] = [
     Border::UnusedFigure,
     Border::LengthInEdges,
     Border::SwappedRefusal,
@@ -140,6 +168,10 @@ const BORDER: [Border; 51] = [
     Border::RisingW2,
     Border::WorkLimit,
     Border::WorkWithoutClasses,
+    Border::WorkWithCosts,
+    Border::WideLimit,
+    Border::WideOfV,
+    Border::WideAny,
     Border::RouteLimit,
     Border::GoalNumber,
     Border::RuleStrict,
@@ -159,6 +191,15 @@ const BORDER: [Border; 51] = [
     Border::StartPredecessor,
     Border::WorkBeyond,
     Border::WorkAtRefusal,
+    Border::SwappedWide,
+    Border::WideByKind,
+    Border::WideUnwritten,
+    Border::WideHalves,
+    Border::WideBeyond,
+    Border::WideAtRefusal,
+    Border::CostLimit,
+    Border::OldCostLimit,
+    Border::ThreeGroups,
     Border::TextEnd,
     Border::TextWord,
     Border::TextSpace,
@@ -175,18 +216,83 @@ const BORDER: [Border; 51] = [
 
 struct Faulty(Border);
 
-fn lend<'a>(route: &'a mut [u32], log: &'a mut [u32], work: &'a mut [u32]) -> Memory<'a> {
-    Memory { route, log, work }
+/// The same memory, lent once more.
+fn lend<'a>(memory: &'a mut Memory) -> Memory<'a> {
+    Memory {
+        route: memory.route,
+        log: memory.log,
+        work: memory.work,
+        wide: memory.wide,
+    }
 }
 
 /// A call whose work memory is short, as if it had so many words.
 fn with_longer_work(request: &Request, memory: Memory, words: usize) -> Answer {
-    let Memory { route, log, work } = memory;
-    let mut longer = work.to_vec();
+    let mut longer = memory.work.to_vec();
     longer.resize(words, 0);
-    let answer = planner::plan(request, lend(route, log, &mut longer));
-    work.copy_from_slice(&longer[..work.len()]);
+    let lent = Memory {
+        work: &mut longer,
+        ..memory
+    };
+    let answer = planner::plan(request, lent);
+    let length = memory.work.len();
+    memory.work.copy_from_slice(&longer[..length]);
     answer
+}
+
+/// A call whose wide memory is short, as if it had enough.
+fn with_longer_wide(request: &Request, memory: Memory) -> Answer {
+    let mut longer = memory.wide.to_vec();
+    longer.resize(planner::wide_numbers(counts(request).0), 0);
+    let lent = Memory {
+        wide: &mut longer,
+        ..memory
+    };
+    let answer = planner::plan(request, lent);
+    let length = memory.wide.len();
+    memory.wide.copy_from_slice(&longer[..length]);
+    answer
+}
+
+/// The plan's bytes with each cost of 16,000,001 in place of one of
+/// 16,000,000, if there is one.
+fn with_cheaper_costs(bytes: &[u8]) -> Option<Vec<u8>> {
+    let Err(Refusal {
+        number: 5,
+        position,
+    }) = reference::check_plan(bytes)
+    else {
+        return None;
+    };
+    let mut other = bytes.to_vec();
+    let dear = other[position..].first_chunk_mut::<4>()?;
+    if *dear != [0x81, 0xC8, 0xD0, 7] {
+        return None;
+    }
+    dear[0] = 0x80;
+    with_cheaper_costs(&other).or(Some(other))
+}
+
+/// Where the first plan number stands that is wanted by its index, value and
+/// count of groups, if no fault comes before it.
+fn first_number(bytes: &[u8], wanted: impl Fn(usize, u32, usize) -> bool) -> Option<usize> {
+    let end = match reference::check_plan(bytes) {
+        Err(Refusal {
+            number: 7,
+            position,
+        }) => position,
+        Err(Refusal { position, .. }) => position + 1,
+        Ok(_) => bytes.len(),
+    };
+    let (mut at, mut index) = (0, 0);
+    while at < end {
+        let (value, next) = reference::read_plan_number(bytes, at).ok()?;
+        if wanted(index, value, next - at) {
+            return Some(at);
+        }
+        (at, index) = (next, index + 1);
+    }
+    None
 }
 
 impl Faulty {
@@ -197,7 +303,8 @@ impl Faulty {
         let needed = planner::work_words(vertices as usize, edges as usize);
         let without_classes = needed - edges as usize;
         let factors = request.schedule;
-        let room = (memory.route.len(), memory.work.len());
+        let wide = planner::wide_numbers(vertices as usize);
+        let room = Room::of(&memory);
         let mut list = Vec::new();
         let mut other = *request;
         match self.0 {
@@ -236,13 +343,22 @@ impl Faulty {
                 *list.get_mut(request.goal as usize)? = 0;
                 other.anchor = &list;
             }
-            Border::WorkLimit if room.1 == needed - 1 => {
+            Border::WorkLimit if room.work == needed - 1 => {
                 return Some(with_longer_work(request, memory, needed));
             }
-            Border::WorkWithoutClasses if (without_classes..needed).contains(&room.1) => {
+            Border::WorkWithoutClasses if (without_classes..needed).contains(&room.work) => {
                 return Some(with_longer_work(request, memory, needed));
             }
-            Border::RouteLimit if room.0 == vertices as usize - 1 => {
+            Border::WideLimit if room.wide == wide - 1 => {
+                return Some(with_longer_wide(request, memory));
+            }
+            Border::WideOfV if (wide / 2..wide).contains(&room.wide) => {
+                return Some(with_longer_wide(request, memory));
+            }
+            Border::WideAny if room.wide < wide => {
+                return Some(with_longer_wide(request, memory));
+            }
+            Border::RouteLimit if room.route == vertices as usize - 1 => {
                 let mut route = memory.route.to_vec();
                 route.push(0);
                 let lent = Memory {
@@ -250,7 +366,7 @@ impl Faulty {
                     ..memory
                 };
                 let answer = planner::plan(request, lent);
-                memory.route.copy_from_slice(&route[..room.0]);
+                memory.route.copy_from_slice(&route[..room.route]);
                 return Some(answer);
             }
             Border::BudgetPlusOne => other.budget = request.budget.saturating_add(1),
@@ -260,7 +376,7 @@ impl Faulty {
     }
 
     /// A refusal that comes too early, too late or wrongly.
-    fn refusal(&self, request: &Request, answer: Answer, room: (usize, usize)) -> Answer {
+    fn refusal(&self, request: &Request, answer: Answer, room: Room) -> Answer {
         let refused = |number, position| Answer::Refused { number, position };
         let number = match answer {
             Answer::Refused { number, .. } => number,
@@ -270,7 +386,7 @@ impl Faulty {
             return answer;
         };
         let (vertices, edges) = (vertices as usize, edges as usize);
-        let short = room.0 < vertices || room.1 < planner::work_words(vertices, edges);
+        let short = room.is_short(vertices, edges);
         let anchor_at = |vertex: u32| request.anchor.get(vertex as usize).copied();
         let first_edge = |broken: &dyn Fn(u32, u32, u32) -> bool| {
             let mut first = None;
@@ -285,6 +401,9 @@ impl Faulty {
         match (self.0, number) {
             (Border::RulePosition, 13) => refused(13, 0),
             (Border::MemoryFirst, 9 | 10) if short => refused(11, 0),
+            (Border::WorkWithCosts, 0 | 12 | 13) if room.work < 5 * vertices + 1 + 3 * edges => {
+                refused(11, 0)
+            }
             (Border::BarredAfterTables, 8) if request.anchor.len() != vertices => {
                 let ends = [request.start, request.goal];
                 match ends.iter().all(|&end| (end as usize) < vertices) {
@@ -308,6 +427,32 @@ impl Faulty {
             }
             _ => answer,
         }
+    }
+}
+
+/// Lent memory as it was before a call.
+struct Before {
+    route: Vec<u32>,
+    log: Vec<u32>,
+    work: Vec<u32>,
+    wide: Vec<u64>,
+}
+
+impl Before {
+    fn of(memory: &Memory) -> Before {
+        Before {
+            route: memory.route.to_vec(),
+            log: memory.log.to_vec(),
+            work: memory.work.to_vec(),
+            wide: memory.wide.to_vec(),
+        }
+    }
+
+    fn restore(&self, memory: &mut Memory) {
+        memory.route.copy_from_slice(&self.route);
+        memory.log.copy_from_slice(&self.log);
+        memory.work.copy_from_slice(&self.work);
+        memory.wide.copy_from_slice(&self.wide);
     }
 }
 
@@ -376,7 +521,7 @@ impl Faulty {
                 }
             }
             (Border::WorkBeyond, 0..=2) => {
-                if let Some(word) = work.get_mut(state + 4 * vertices) {
+                if let Some(word) = work.get_mut(state + 2 * vertices) {
                     *word = 0;
                 }
             }
@@ -393,16 +538,15 @@ impl Faulty {
         let (vertices, edges) = counts(request);
         let first = vertices + 1 + 3 * edges;
         // A fault of the memory's length may have let a shorter one pass.
-        let Some(state) = work.get_mut(first..first + 4 * vertices) else {
+        let Some(state) = work.get_mut(first..first + 2 * vertices) else {
             return;
         };
         let (words, _) = state.as_chunks_mut();
-        for (vertex, [_, expanded, predecessor, marks]) in words.iter_mut().enumerate() {
+        for (vertex, [predecessor, marks]) in words.iter_mut().enumerate() {
             match self.0 {
                 Border::SwappedMarks => {
                     *marks = *marks & 12 | (*marks & 1) << 1 | (*marks & 2) >> 1;
                 }
-                Border::NeverExpanded if *expanded == NONE => *expanded = 0,
                 Border::StartPredecessor if vertex as u32 == request.start => {
                     *predecessor = request.start;
                 }
@@ -412,26 +556,87 @@ impl Faulty {
     }
 }
 
+/// Faults of wide memory.
+impl Faulty {
+    fn spoil_wide(&self, request: &Request, figures: Figures, wide: &mut [u64], old: &[u64]) {
+        let [ending, number, ..] = figures;
+        let needed = planner::wide_numbers(counts(request).0);
+        match (self.0, ending) {
+            (Border::WideAtRefusal, 3) if [12, 13].contains(&number) => wide[0] = UNREACHED,
+            (Border::WideBeyond, 0..=2) => {
+                if let Some(number) = wide.get_mut(needed) {
+                    *number = 0;
+                }
+            }
+            // A fault of the memory's length may have let a shorter one pass.
+            (_, 0..=2) if wide.len() >= needed => {
+                self.spoil_costs(&mut wide[..needed], &old[..needed]);
+            }
+            _ => {}
+        }
+    }
+
+    /// The costs of all vertices, two together for each.
+    fn spoil_costs(&self, wide: &mut [u64], old: &[u64]) {
+        let costs = wide.to_vec();
+        let half = wide.len() / 2;
+        for (index, number) in wide.iter_mut().enumerate() {
+            *number = match self.0 {
+                Border::SwappedWide => costs[index ^ 1],
+                Border::WideByKind => costs[2 * (index % half) + index / half],
+                Border::WideUnwritten => old[index],
+                Border::WideHalves => u64::from(*number as u32) | old[index] >> 32 << 32,
+                Border::NeverExpanded if index % 2 == 1 && *number == UNREACHED => 0,
+                _ => continue,
+            };
+        }
+    }
+
+    /// The call on other plan bytes, and what plan bytes are refused for
+    /// before it.
+    fn by_other_limits(&self, request: &Request, memory: Memory) -> Option<Answer> {
+        let (number, position) = match self.0 {
+            Border::CostLimit => {
+                let bytes = &with_cheaper_costs(request.bytes)?;
+                return Some(planner::plan(&Request { bytes, ..*request }, memory));
+            }
+            Border::ThreeGroups => (1, first_number(request.bytes, |_, _, groups| groups == 4)?),
+            // Costs come after V, M, tail and head, and after each other four.
+            Border::OldCostLimit => {
+                let dear =
+                    |index: usize, value, _| index % 4 == 0 && index > 0 && value > 1_000_000;
+                (5, first_number(request.bytes, dear)?)
+            }
+            _ => return None,
+        };
+        Some(Answer::Refused { number, position })
+    }
+
+    fn spoil(&self, request: &Request, figures: Figures, memory: Memory, before: &Before) {
+        self.spoil_route(request, figures, memory.route, &before.route);
+        self.spoil_log(request, figures, memory.log);
+        self.spoil_edges(request, figures, memory.work, &before.work);
+        self.spoil_vertices(request, figures, memory.work);
+        self.spoil_wide(request, figures, memory.wide, &before.wide);
+    }
+}
+
 impl Planner for Faulty {
-    fn plan(&self, request: &Request, memory: Memory) -> Figures {
-        let Memory { route, log, work } = memory;
-        let room = (route.len(), work.len());
-        let before = (route.to_vec(), log.to_vec(), work.to_vec());
-        let mut answer = planner::plan(request, lend(route, log, work));
-        if let Some(other) = self.repaired(request, lend(route, log, work)) {
+    fn plan(&self, request: &Request, mut memory: Memory) -> Figures {
+        let (room, before) = (Room::of(&memory), Before::of(&memory));
+        let mut answer = planner::plan(request, lend(&mut memory));
+        if let Some(other) = self.repaired(request, lend(&mut memory)) {
+            answer = other;
+        }
+        if let Some(other) = self.by_other_limits(request, lend(&mut memory)) {
             answer = other;
         }
         answer = self.refusal(request, answer, room);
         if let Answer::Refused { .. } = answer {
-            route.copy_from_slice(&before.0);
-            log.copy_from_slice(&before.1);
-            work.copy_from_slice(&before.2);
+            before.restore(&mut memory);
         }
         let figures = answer.figures();
-        self.spoil_route(request, figures, route, &before.0);
-        self.spoil_log(request, figures, log);
-        self.spoil_edges(request, figures, work, &before.2);
-        self.spoil_vertices(request, figures, work);
+        self.spoil(request, figures, memory, &before);
         let [ending, number, position, rest @ ..] = figures;
         let [cost, length, rounds, turns, _] = rest;
         match (self.0, ending) {
@@ -514,6 +719,7 @@ impl Seeded {
     fn new() -> Seeded {
         let (mut list, mut texts) = (Vec::new(), Vec::new());
         jobs::valid_jobs(51, 9_000, &mut |_, job| list.push(job.clone()));
+        jobs::long_jobs(54, 30, &mut |_, job| list.push(job.clone()));
         jobs::damaged_jobs(52, 21_000, &mut |job, _| list.push(job.clone()));
         jobs::bench_jobs(53, 2_000, &mut |bytes, _| texts.push(bytes.to_vec()));
         Seeded { jobs: list, texts }
@@ -554,10 +760,18 @@ fn each_fault_of_the_search_is_found() {
         let (differing, jobs) = seeded.differing_jobs(&planner);
         println!("{fault:?}: {differing} in {jobs} jobs");
         assert_eq!(differing, ENOUGH, "{fault:?} in {jobs} jobs");
-        // Work memory alone shows some of them, or almost alone.
+        // Work memory alone shows some of them, or almost alone, and no bench
+        // job has costs beyond 32 bits.
         if !matches!(
             fault,
-            Fault::Forgotten | Fault::AnchorMarksStay | Fault::ExpandedForgotten | Fault::NoBegin
+            Fault::Forgotten
+                | Fault::AnchorMarksStay
+                | Fault::ExpandedForgotten
+                | Fault::NoBegin
+                | Fault::NarrowG
+                | Fault::NarrowUnreached
+                | Fault::NarrowTrace
+                | Fault::NarrowKey
         ) {
             let (differing, texts) = seeded.differing_texts(&planner);
             println!("{fault:?}: {differing} in {texts} texts");

@@ -7,8 +7,8 @@ use secondcoop_tests::events::Events;
 use secondcoop_tests::generate::Plan;
 use secondcoop_tests::guarded::GUARD;
 use secondcoop_tests::jobs::{self, Job};
-use secondcoop_tests::planner::{self, Answer, Event, NONE};
-use secondcoop_tests::planners::{self, Library, Planner, SecondPlanner};
+use secondcoop_tests::planner::{self, Answer, Event, NONE, UNREACHED};
+use secondcoop_tests::planners::{self, Lent, Library, Planner, SecondPlanner};
 use secondcoop_tests::random::Random;
 use secondcoop_tests::reference::LAST_REFUSAL;
 
@@ -44,8 +44,8 @@ fn check(planner: &dyn Planner, plan: &Plan, job: &Job, met: &mut Met) {
     assert_eq!(outcome.figures, answer.figures());
     let least = dijkstra::distances_from(plan, job.start, job.barred)[job.goal as usize];
     let vertices = plan.vertices as usize;
-    let [route_before, log_before, work_before] = planners::lent_memory(job, 5);
-    let untouched = route_before.all;
+    let lent = Lent::before(job, 5);
+    let untouched = lent.route.all;
     let turns = match answer {
         Answer::Route {
             cost,
@@ -59,7 +59,7 @@ fn check(planner: &dyn Planner, plan: &Plan, job: &Job, met: &mut Met) {
             let route = &outcome.route[GUARD..GUARD + vertices];
             let (walk, rest) = route.split_at(length as usize);
             assert_eq!((walk[0], walk[walk.len() - 1]), (job.start, job.goal));
-            assert_eq!(walk_cost(plan, job.barred, walk), u64::from(cost));
+            assert_eq!(walk_cost(plan, job.barred, walk), cost);
             assert!(rest.iter().all(|&word| word == NONE));
             assert_eq!(
                 outcome.route[GUARD + vertices..],
@@ -72,10 +72,10 @@ fn check(planner: &dyn Planner, plan: &Plan, job: &Job, met: &mut Met) {
             };
             let last = rounds as usize - 1;
             assert_eq!(bound, schedule[2 * last] * schedule[2 * last + 1]);
-            assert!(10_000 * u64::from(cost) <= u64::from(bound) * least);
+            assert!(10_000 * u128::from(cost) <= u128::from(bound) * u128::from(least));
             if bound == 10_000 {
                 met.optimal_rounds += 1;
-                assert_eq!(u64::from(cost), least);
+                assert_eq!(cost, least);
             }
             assert!(rounds as usize <= schedule.len() / 2);
             // Fewer rounds only where the budget ran out.
@@ -101,9 +101,9 @@ fn check(planner: &dyn Planner, plan: &Plan, job: &Job, met: &mut Met) {
     // Demand 3: in a round a vertex is expanded at most once for the guides
     // and at most once for the anchor, for the guides first, and its cost
     // fell in between. A vertex is never expanded twice at one cost.
-    let mut for_guides: Vec<Option<u32>> = vec![None; vertices];
-    let mut for_anchor: Vec<Option<u32>> = vec![None; vertices];
-    let mut before: Vec<Option<u32>> = vec![None; vertices];
+    let mut for_guides: Vec<Option<u64>> = vec![None; vertices];
+    let mut for_anchor: Vec<Option<u64>> = vec![None; vertices];
+    let mut before: Vec<Option<u64>> = vec![None; vertices];
     let mut count = 0;
     for event in &events {
         match *event {
@@ -149,18 +149,22 @@ fn check(planner: &dyn Planner, plan: &Plan, job: &Job, met: &mut Met) {
     let logged = (turns as usize).min(job.log_room);
     for (index, &word) in outcome.log.iter().enumerate() {
         if !(GUARD..GUARD + logged).contains(&index) {
-            assert_eq!(word, log_before.all[index]);
+            assert_eq!(word, lent.log.all[index]);
         }
     }
 
-    // Work memory against the plan and the expansions.
-    let needed = 5 * vertices + 1 + 3 * plan.edges();
+    // Work and wide memory against the plan and the expansions.
+    let needed = 3 * vertices + 1 + 3 * plan.edges();
     let work = &outcome.work[GUARD..GUARD + needed];
     for (index, &word) in outcome.work.iter().enumerate() {
         if !(GUARD..GUARD + needed).contains(&index) {
-            assert_eq!(word, work_before.all[index]);
+            assert_eq!(word, lent.work.all[index]);
         }
     }
+    let wide = &outcome.wide[GUARD..GUARD + 2 * vertices];
+    assert_eq!(outcome.wide[..GUARD], lent.wide.all[..GUARD]);
+    let behind = GUARD + 2 * vertices;
+    assert_eq!(outcome.wide[behind..], lent.wide.all[behind..]);
     for (vertex, &first) in work[..=vertices].iter().enumerate() {
         let smaller = plan.tails.iter().filter(|&&tail| (tail as usize) < vertex);
         assert_eq!(first as usize, smaller.count());
@@ -171,24 +175,25 @@ fn check(planner: &dyn Planner, plan: &Plan, job: &Job, met: &mut Met) {
     assert_eq!((heads, costs), (&plan.heads[..], &plan.costs[..]));
     assert_eq!(classes, plan.classes);
     let least = dijkstra::distances_from(plan, job.start, job.barred);
-    for (vertex, words) in rest.chunks_exact(4).enumerate() {
-        let &[g, expanded, predecessor, marks] = words else {
+    for (vertex, words) in rest.chunks_exact(2).enumerate() {
+        let &[predecessor, marks] = words else {
             unreachable!()
         };
-        assert_eq!(expanded, before[vertex].unwrap_or(NONE));
+        let [g, expanded] = [wide[2 * vertex], wide[2 * vertex + 1]];
+        assert_eq!(expanded, before[vertex].unwrap_or(UNREACHED));
         assert!(marks < 16 && marks & 12 != 12);
-        if g == NONE {
-            assert_eq!((expanded, predecessor, marks), (NONE, NONE, 0));
+        if g == UNREACHED {
+            assert_eq!((expanded, predecessor, marks), (UNREACHED, NONE, 0));
             continue;
         }
-        assert!(u64::from(g) >= least[vertex].expect("a reached vertex has a walk"));
+        assert!(g >= least[vertex].expect("a reached vertex has a walk"));
         // Open or held exactly where g is news.
         assert_eq!(marks & 12 != 0, g < expanded);
         assert_eq!(predecessor == NONE, vertex as u32 == job.start);
         if predecessor != NONE {
-            let tail = &rest[4 * predecessor as usize..][..4];
+            let expanded = wide[2 * predecessor as usize + 1];
             let cost = walk_cost(plan, job.barred, &[predecessor, vertex as u32]);
-            assert!(u64::from(tail[1]) + cost <= u64::from(g));
+            assert!(expanded + cost <= g);
         }
     }
 }
@@ -213,6 +218,23 @@ fn demand_3_and_dijkstra() {
         assert!(met.no_routes >= 2_000, "{}", met.no_routes);
         assert!(met.unfinished >= 4_000, "{}", met.unfinished);
         assert!(met.twice >= 500, "{}", met.twice);
+    }
+}
+
+/// The same along paths whose costs pass 32 bits.
+#[test]
+fn demand_3_and_dijkstra_beyond_32_bits() {
+    for planner in BOTH {
+        let mut met = Met::default();
+        let mut wide = 0;
+        jobs::long_jobs(40, 80, &mut |plan, job| {
+            check(planner, plan, job, &mut met);
+            let [.., cost, _, _, _, _] = planners::run(planner, job, 5).figures;
+            wide += u64::from(cost > u32::MAX.into());
+        });
+        assert!(met.routes >= 80 && met.unfinished >= 20 && met.no_routes >= 5);
+        assert!(met.optimal_rounds >= 10, "{}", met.optimal_rounds);
+        assert!(wide >= 80, "{wide} routes");
     }
 }
 
@@ -271,17 +293,21 @@ fn every_barred_number() {
     }
 }
 
-/// What a job's call leaves that depends on the search alone: figures, route,
-/// log, and the vertices in work memory, of a plan of V vertices and M edges.
-fn searched(planner: &dyn Planner, job: &Job, (vertices, edges): (usize, usize)) -> [Vec<u32>; 4] {
+/// What a job's call leaves that depends on the search alone: figures and wide
+/// memory; route, log, and the vertices in work memory, of a plan of V
+/// vertices and M edges.
+fn searched(
+    planner: &dyn Planner,
+    job: &Job,
+    (vertices, edges): (usize, usize),
+) -> ([Vec<u64>; 2], [Vec<u32>; 3]) {
     let outcome = planners::run(planner, job, 8);
     let state = GUARD + vertices + 1 + 3 * edges;
-    [
-        outcome.figures.map(|figure| figure as u32).to_vec(),
-        outcome.route,
-        outcome.log,
-        outcome.work[state..state + 4 * vertices].to_vec(),
-    ]
+    let vertices = outcome.work[state..state + 2 * vertices].to_vec();
+    (
+        [outcome.figures.to_vec(), outcome.wide],
+        [outcome.route, outcome.log, vertices],
+    )
 }
 
 /// A search goes as if barred edges were not there, and as if all others were
@@ -309,27 +335,41 @@ fn barred_edges_are_as_if_they_were_not_there() {
     }
 }
 
-/// Work memory of 5V+1+3M words is enough, and one word less is not.
+/// A call is refused for short memory and leaves all of it untouched.
+fn is_short(planner: &dyn Planner, job: &Job) {
+    let outcome = planners::run(planner, job, 3);
+    let refused = Answer::Refused {
+        number: 11,
+        position: 0,
+    };
+    assert_eq!(outcome.answer(), refused);
+    assert!(Lent::before(job, 3).is_untouched(&outcome));
+}
+
+/// Work memory of 3V+1+3M words and wide memory of 2V numbers are enough, and
+/// one less of either is not.
 #[test]
-fn work_memory_is_exact() {
+fn work_and_wide_memory_are_exact() {
     for planner in BOTH {
         let mut random = Random::new(47);
         for index in 0..500 {
             let shape = jobs::SHAPES[index % jobs::SHAPES.len()];
             let (plan, mut job) = jobs::random_job(&mut random, shape);
-            job.work_room = 5 * plan.vertices as usize + 1 + 3 * plan.edges();
+            let vertices = plan.vertices as usize;
+            job.work_room = 3 * vertices + 1 + 3 * plan.edges();
+            job.wide_room = 2 * vertices;
             let answer = planners::run(planner, &job, 3).answer();
             assert!(!matches!(answer, Answer::Refused { .. }), "{answer:?}");
-            job.work_room -= 1;
-            let outcome = planners::run(planner, &job, 3);
-            let refused = Answer::Refused {
-                number: 11,
-                position: 0,
-            };
-            assert_eq!(outcome.answer(), refused);
-            let [route, log, work] = planners::lent_memory(&job, 3);
-            assert_eq!(outcome.route, route.all);
-            assert_eq!((outcome.log, outcome.work), (log.all, work.all));
+            let work_room = job.work_room - 1;
+            is_short(
+                planner,
+                &Job {
+                    work_room,
+                    ..job.clone()
+                },
+            );
+            let wide_room = job.wide_room - 1;
+            is_short(planner, &Job { wide_room, ..job });
         }
     }
 }
@@ -341,10 +381,7 @@ fn damaged_jobs_are_refused() {
         jobs::damaged_jobs(43, 28_000, &mut |job, known| {
             let outcome = planners::run(planner, job, 9);
             assert_eq!(outcome.figures, known.figures(), "{job:?}");
-            let [route, log, work] = planners::lent_memory(job, 9);
-            assert_eq!(outcome.route, route.all);
-            assert_eq!(outcome.log, log.all);
-            assert_eq!(outcome.work, work.all);
+            assert!(Lent::before(job, 9).is_untouched(&outcome), "{job:?}");
             if let Answer::Refused { number, .. } = known {
                 counts[number as usize] += 1;
             }
@@ -360,9 +397,11 @@ fn damaged_jobs_are_refused() {
 #[test]
 fn rare_events() {
     let mut events = Events::default();
-    jobs::valid_jobs(44, 60_000, &mut |_, job| {
+    let mut count = |_: &Plan, job: &Job| {
         events.count(job);
-    });
+    };
+    jobs::valid_jobs(44, 60_000, &mut count);
+    jobs::long_jobs(49, 250, &mut count);
     for (name, count) in events.names() {
         println!("{name}: {count} in {} jobs", events.jobs);
     }
@@ -383,6 +422,7 @@ fn jobs_at_the_limits() {
             }
         });
         assert_eq!(costs[..4], [4_095_000_000; 4]);
+        assert_eq!(costs[4..8], [65_520_000_000; 4]);
         assert!(met.routes >= 5);
     }
 }

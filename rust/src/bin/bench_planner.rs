@@ -95,6 +95,7 @@ struct Lent {
     route: Vec<u32>,
     log: Vec<u32>,
     work: Vec<u32>,
+    wide: Vec<u64>,
 }
 
 impl Lent {
@@ -103,6 +104,7 @@ impl Lent {
             route: vec![0; job.route_room],
             log: vec![0; job.log_room],
             work: vec![0; job.work_room],
+            wide: vec![0; job.wide_room],
         }
     }
 
@@ -111,6 +113,7 @@ impl Lent {
             route: &mut self.route,
             log: &mut self.log,
             work: &mut self.work,
+            wide: &mut self.wide,
         };
         planner.plan(black_box(&job.request()), memory)
     }
@@ -181,7 +184,8 @@ fn compare(name: &str, job: &Job) -> [f64; 2] {
     let figures = lent.call(&SecondPlanner, job);
     let mut other = Lent::of(job);
     assert_eq!(other.call(&Library, job), figures);
-    assert!(other.route == lent.route && other.log == lent.log && other.work == lent.work);
+    assert!(other.route == lent.route && other.log == lent.log);
+    assert!(other.work == lent.work && other.wide == lent.wide);
     let [_, _, _, _, _, rounds, turns, _] = figures;
     let times = times(|side| assert_eq!(black_box(lent.call(side, job)), figures));
     print_line(name, job, rounds, turns, &times)
