@@ -24,6 +24,7 @@ int main(void)
     uint32_t route[SECONDCOOP_ROUTE_WORDS(PLACES)];
     uint32_t log[SECONDCOOP_TURNS(PLACES, ROUNDS)];
     uint32_t work[SECONDCOOP_WORK_WORDS(PLACES, LANES)];
+    uint64_t wide[SECONDCOOP_WIDE_NUMBERS(PLACES)];
     uint64_t figures[SECONDCOOP_PLAN_FIGURES];
 
     /* Job A bars no class; SECONDCOOP_CLASS(1) would keep a tug off lanes of
@@ -31,7 +32,8 @@ int main(void)
     secondcoop_plan(plan, sizeof plan, 0, 3, NO_BAR, anchor, PLACES, guide, PLACES, 1,
                     schedule, 2 * ROUNDS, 100,
                     route, PLACES, log, sizeof log / sizeof log[0],
-                    work, sizeof work / sizeof work[0], figures);
+                    work, sizeof work / sizeof work[0],
+                    wide, sizeof wide / sizeof wide[0], figures);
 
     switch (figures[SECONDCOOP_PLAN_ENDING]) {
     case SECONDCOOP_ROUTE:

@@ -2,11 +2,11 @@
  * The tug route planner, as C functions.
  *
  * A plan has V places, 1 to 4096, numbered from 0, and M one-way lanes, 0 to
- * 32768; a lane has a tail, a head, a cost, 0 to 1000000, and a class, 0 to
+ * 32768; a lane has a tail, a head, a cost, 0 to 16000000, and a class, 0 to
  * 7, and there is at most one lane for a tail and a head. Plan bytes are V,
  * M, then for each lane: tail minus the previous lane's tail (minus 0 for the
  * first), head, cost, class; heads rise strictly under one tail. Each number
- * stands in one to three groups of seven bits, lowest group first; a byte's
+ * stands in one to four groups of seven bits, lowest group first; a byte's
  * top bit is set when another group follows, and the last group is not zero
  * unless it is the only one.
  *
@@ -16,8 +16,9 @@
  *
  * For every function:
  * - A list is a pointer and the count of its elements. It is aligned as its
- *   elements are: bytes anywhere, 32-bit words at multiples of 4, figures at
- *   multiples of 8. An empty list may have any such pointer but null.
+ *   elements are: bytes anywhere, 32-bit words at multiples of 4, 64-bit
+ *   numbers, as figures and wide memory, at multiples of 8. An empty list may
+ *   have any such pointer but null.
  * - Memory that is written does not overlap other memory of the same call.
  *   Memory beyond what is written keeps its contents.
  * - `figures` points to SECONDCOOP_FIGURES numbers, for secondcoop_plan to
@@ -41,13 +42,13 @@
  * at the plan's first byte (also in a bench job), lanes from 0 in plan order.
  *
  *   place             no. condition                              position
- *   any plan number    1  bytes end, over three groups, or not   its first byte
+ *   any plan number    1  bytes end, over four groups, or not    its first byte
  *                         shortest
  *   V                  2  0 or above 4096                        same
  *   M                  3  above 32768                            same
  *   tail, then head    4  not a place                            same
  *   head               6  not above the last head of that tail   same
- *   cost               5  above 1000000                          same
+ *   cost               5  above 16000000                         same
  *   class             15  above 7                                same
  *   plan's end         7  bytes left over                        first of them
  *   call               8  start or goal not a place, or barred   0
@@ -56,8 +57,8 @@
  *                         numbers each
  *   call              10  schedule over 16 rounds, odd, out of   0
  *                         range or rising
- *   call              11  route under V words, or work under     0
- *                         5V+1+3M
+ *   call              11  route under V words, work under        0
+ *                         3V+1+3M, or wide under 2V numbers
  *   anchor table      12  not 0 at the goal                      0
  *   anchor table      13  a lane breaks its rule                 first such lane
  *   bench program     14  not a job for the bench program        0
@@ -81,13 +82,20 @@ extern "C" {
  * bench job have a barred number after the goal, and refusal 8, now
  * SECONDCOOP_BAD_ENDS_OR_BARRED, covers it. Plan bytes of version 1 have to
  * be written anew.
+ *
+ * Version 3: costs go to 16000000 and plan numbers have up to four groups;
+ * refusals 1 and 5 move to these limits. Costs of places are 64-bit numbers
+ * in wide memory, which a planner call is lent after work memory: work
+ * memory has 2V words less, and refusal 11 covers both. Not reached and never
+ * expanded is now SECONDCOOP_UNREACHED. Plan bytes of version 2 are plan
+ * bytes still, and of the same plan.
  */
-#define SECONDCOOP_VERSION 2
+#define SECONDCOOP_VERSION 3
 
 /* Limits of a plan and of a call. */
 #define SECONDCOOP_MAX_PLACES 4096
 #define SECONDCOOP_MAX_LANES 32768
-#define SECONDCOOP_MAX_COST 1000000
+#define SECONDCOOP_MAX_COST 16000000
 #define SECONDCOOP_MAX_CLASS 7
 #define SECONDCOOP_MAX_BARRED 255
 #define SECONDCOOP_MAX_GUIDES 8
@@ -106,14 +114,16 @@ extern "C" {
 #define SECONDCOOP_HOUSE_ROUNDS 6
 
 /* Sizes of lent memory, in elements: figures; plan bytes that are always
- * enough to write so many lanes; route and work memory of a planner call;
- * bytes that are always enough for the text of a bench job. */
+ * enough to write so many lanes, and any plan; route, work and wide memory of
+ * a planner call; bytes that are always enough for the text of a bench job. */
 #define SECONDCOOP_FIGURES 4
 #define SECONDCOOP_PLAN_FIGURES 8
-#define SECONDCOOP_PLAN_BYTES(lanes) (6 + 10 * (size_t)(lanes))
+#define SECONDCOOP_PLAN_BYTES(lanes) (6 + 11 * (size_t)(lanes))
+#define SECONDCOOP_MAX_PLAN_BYTES SECONDCOOP_PLAN_BYTES(SECONDCOOP_MAX_LANES)
 #define SECONDCOOP_ROUTE_WORDS(places) ((size_t)(places))
 #define SECONDCOOP_WORK_WORDS(places, lanes) \
-    (5 * (size_t)(places) + 1 + 3 * (size_t)(lanes))
+    (3 * (size_t)(places) + 1 + 3 * (size_t)(lanes))
+#define SECONDCOOP_WIDE_NUMBERS(places) (2 * (size_t)(places))
 #define SECONDCOOP_MAX_TEXT 289654
 
 /*
@@ -132,8 +142,12 @@ extern "C" {
 #define SECONDCOOP_PLAN_STACK 16384
 #define SECONDCOOP_TEXT_STACK 90112
 
-/* Not reached, never expanded, no predecessor; and what follows a route. */
+/* No predecessor; and what follows a route. */
 #define SECONDCOOP_NONE UINT32_C(4294967295)
+
+/* The cost of a place not reached, and that when last expanded of a place
+ * never expanded. */
+#define SECONDCOOP_UNREACHED UINT64_C(18446744073709551615)
 
 /* The four figures of a call on numbers or plans. */
 enum {
@@ -180,7 +194,7 @@ void secondcoop_read_job_number(const uint8_t *bytes, size_t bytes_length,
 
 /*
  * Writes a plan number at offset `at`, in as few groups as it takes.
- * Figures: refusal 1 if three groups cannot hold it, else refusal 11 if the
+ * Figures: refusal 1 if four groups cannot hold it, else refusal 11 if the
  * output is too short, both with position 0; or the offset after the number
  * as first value.
  */
@@ -273,20 +287,23 @@ enum {
  * - unfinished: turns. The allowance was spent in the first round.
  * - refused:    refusal number, 1 to 13 or 15, and position.
  *
- * Lent memory, in 32-bit words:
+ * Lent memory, in 32-bit words but for wide:
  * - route, at least V words: the places from start to goal, then
  *   SECONDCOOP_NONE up to V words. Without a route it is unchanged.
  * - log, any length: word k, counted from 1, is the k-th turn's place +
  *   65536 * table (0 is the anchor, 1 the first guide); turns past its end
  *   are not logged. No call has more turns than its allowance, nor more than
  *   2 * V times its rounds.
- * - work, at least 5V+1+3M words (SECONDCOOP_WORK_WORDS): V+1 first lane
+ * - work, at least 3V+1+3M words (SECONDCOOP_WORK_WORDS): V+1 first lane
  *   numbers (the last is M), M heads, M costs, M classes, of all lanes, barred
- *   ones too; then four words for each place: its cost g, its cost when last
- *   expanded, its predecessor, and its marks as a sum, as the search left
- *   them. Marks: 1 expanded for a guide and 2 for the anchor, in the last
- *   round that began; 4 open, it may be expanded; 8 held, its cost fell after
- *   the anchor expanded it, and it waits for the next round.
+ *   ones too; then two words for each place: its predecessor, SECONDCOOP_NONE
+ *   before it has one, and its marks as a sum, as the search left them. Marks:
+ *   1 expanded for a guide and 2 for the anchor, in the last round that began;
+ *   4 open, it may be expanded; 8 held, its cost fell after the anchor
+ *   expanded it, and it waits for the next round.
+ * - wide, at least 2V numbers of 64 bits (SECONDCOOP_WIDE_NUMBERS): two for
+ *   each place, its cost g, and its cost when last expanded, as the search
+ *   left them; SECONDCOOP_UNREACHED for a place not reached or never expanded.
  */
 void secondcoop_plan(const uint8_t *bytes, size_t bytes_length,
                      uint32_t start, uint32_t goal, uint32_t barred,
@@ -298,6 +315,7 @@ void secondcoop_plan(const uint8_t *bytes, size_t bytes_length,
                      uint32_t *route, size_t route_length,
                      uint32_t *log, size_t log_length,
                      uint32_t *work, size_t work_length,
+                     uint64_t *wide, size_t wide_length,
                      uint64_t *figures);
 
 /*

@@ -6,14 +6,16 @@
 
 #include "secondcoop.h"
 
-enum { PLACES = 16, LANES = 30, BYTES = 256, WORDS = 512, SHIFTS = 16 };
+enum { PLACES = 16, LANES = 30, BYTES = 256, WORDS = 512, WIDE = 40, SHIFTS = 16 };
 
 /* Lists of one call, each at a shift of so many elements. */
 static uint8_t byte_memory[3][BYTES + SHIFTS] __attribute__((aligned(64)));
 static uint32_t word_memory[6][WORDS + SHIFTS] __attribute__((aligned(64)));
+static uint64_t wide_memory[WIDE + SHIFTS] __attribute__((aligned(64)));
 static uint64_t figure_memory[SECONDCOOP_PLAN_FIGURES + SHIFTS] __attribute__((aligned(64)));
 static uint8_t *bytes[3];
 static uint32_t *words[6];
+static uint64_t *wide;
 static uint64_t *figures;
 
 static void place(int shift)
@@ -26,6 +28,8 @@ static void place(int shift)
         words[at] = word_memory[at] + shift;
         memset(words[at], 0xEE, WORDS * sizeof *words[at]);
     }
+    wide = wide_memory + shift;
+    memset(wide, 0xEE, WIDE * sizeof *wide);
     figures = figure_memory + shift;
     memset(figures, 0xEE, SECONDCOOP_PLAN_FIGURES * sizeof *figures);
 }
@@ -37,7 +41,7 @@ static size_t plan_bytes(void)
     for (uint32_t lane = 0; lane < LANES; lane++) {
         tails[lane] = lane / 2;
         heads[lane] = lane / 2 + 1 - (lane % 2 == 0 ? 1 : 0);
-        costs[lane] = 1000 * lane;
+        costs[lane] = 500000 * lane;
         classes[lane] = lane % 2;
     }
     uint64_t written[SECONDCOOP_FIGURES];
@@ -48,7 +52,7 @@ static size_t plan_bytes(void)
 
 static void numbers(void)
 {
-    secondcoop_write_plan_number(bytes[0], BYTES, 7, 1000000, figures);
+    secondcoop_write_plan_number(bytes[0], BYTES, 7, SECONDCOOP_MAX_COST, figures);
     secondcoop_read_plan_number(bytes[0], BYTES, 7, figures);
     secondcoop_read_job_number(bytes[0], BYTES, 8, figures + 4);
 }
@@ -81,7 +85,8 @@ static void plan_call(void)
     /* The lanes of class 0 lead from a place to itself. */
     secondcoop_plan(bytes[0], length, 0, PLACES - 1, SECONDCOOP_CLASS(0), words[0], PLACES,
                     words[1], PLACES, 1, words[2], 4, 1000, words[3], PLACES, words[4], 40,
-                    words[5], SECONDCOOP_WORK_WORDS(PLACES, LANES), figures);
+                    words[5], SECONDCOOP_WORK_WORDS(PLACES, LANES),
+                    wide, SECONDCOOP_WIDE_NUMBERS(PLACES), figures);
 }
 
 static void bench_text(void)
@@ -96,6 +101,7 @@ static void bench_text(void)
 struct memory {
     uint8_t bytes[3][BYTES];
     uint32_t words[6][WORDS];
+    uint64_t wide[WIDE];
     uint64_t figures[SECONDCOOP_PLAN_FIGURES];
 };
 
@@ -105,6 +111,7 @@ static void keep(struct memory *memory)
         memcpy(memory->bytes[at], bytes[at], BYTES);
     for (int at = 0; at < 6; at++)
         memcpy(memory->words[at], words[at], sizeof memory->words[at]);
+    memcpy(memory->wide, wide, sizeof memory->wide);
     memcpy(memory->figures, figures, sizeof memory->figures);
 }
 

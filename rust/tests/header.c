@@ -20,21 +20,23 @@ static const uint8_t plan_a[] = {4, 4, 0, 1, 1, 0, 0, 2, 4, 0, 1, 2, 2, 0, 1, 3,
 
 static void numbers(void)
 {
-    static const uint8_t bytes[] = {0xC0, 0x84, 0x3D, 0xFF, 0xFF, 0xFF, 0xFF, 0x0F};
+    static const uint8_t bytes[] = {0x80, 0xC8, 0xD0, 0x07, 0xFF, 0xFF, 0xFF, 0xFF, 0x0F};
     uint64_t figures[SECONDCOOP_FIGURES];
     secondcoop_read_plan_number(bytes, sizeof bytes, 0, figures);
-    expect("read_plan_number", figures, (const uint64_t[]){0, 0, 1000000, 3}, 4);
-    secondcoop_read_plan_number(bytes, sizeof bytes, 3, figures);
-    expect("read_plan_number refuses", figures, (const uint64_t[]){1, 3, 0, 0}, 4);
-    secondcoop_read_job_number(bytes, sizeof bytes, 3, figures);
-    expect("read_job_number", figures, (const uint64_t[]){0, 0, UINT32_MAX, 8}, 4);
-    uint8_t out[4] = {0xEE, 0xEE, 0xEE, 0xEE};
-    secondcoop_write_plan_number(out, sizeof out, 1, 1000000, figures);
-    expect("write_plan_number", figures, (const uint64_t[]){0, 0, 4, 0}, 4);
-    if (out[0] != 0xEE || memcmp(out + 1, bytes, 3) != 0)
+    expect("read_plan_number", figures, (const uint64_t[]){0, 0, SECONDCOOP_MAX_COST, 4}, 4);
+    secondcoop_read_plan_number(bytes, sizeof bytes, 4, figures);
+    expect("read_plan_number refuses", figures, (const uint64_t[]){1, 4, 0, 0}, 4);
+    secondcoop_read_job_number(bytes, sizeof bytes, 4, figures);
+    expect("read_job_number", figures, (const uint64_t[]){0, 0, UINT32_MAX, 9}, 4);
+    uint8_t out[5] = {0xEE, 0xEE, 0xEE, 0xEE, 0xEE};
+    secondcoop_write_plan_number(out, sizeof out, 1, SECONDCOOP_MAX_COST, figures);
+    expect("write_plan_number", figures, (const uint64_t[]){0, 0, 5, 0}, 4);
+    if (out[0] != 0xEE || memcmp(out + 1, bytes, 4) != 0)
         wrong++;
-    secondcoop_write_plan_number(out, sizeof out, 4, 0, figures);
+    secondcoop_write_plan_number(out, sizeof out, 5, 0, figures);
     expect("write_plan_number refuses", figures, (const uint64_t[]){11, 0, 0, 0}, 4);
+    secondcoop_write_plan_number(out, sizeof out, 0, UINT32_C(1) << 28, figures);
+    expect("write_plan_number refuses", figures, (const uint64_t[]){1, 0, 0, 0}, 4);
 }
 
 static void plans(void)
@@ -74,6 +76,7 @@ static void names(void)
     static const uint32_t anchor[3] = {0, 0, 0}, schedule[] = {300, 200};
     uint64_t figures[SECONDCOOP_PLAN_FIGURES];
     uint32_t route[3], log[1], work[SECONDCOOP_WORK_WORDS(3, 1)];
+    uint64_t wide[SECONDCOOP_WIDE_NUMBERS(3)];
     secondcoop_check_plan(plan, sizeof plan, figures);
     wrong += figures[SECONDCOOP_REFUSAL] != SECONDCOOP_NOT_REFUSED;
     wrong += figures[SECONDCOOP_FIRST] != 3 || figures[SECONDCOOP_SECOND] != 1;
@@ -81,13 +84,15 @@ static void names(void)
     wrong += figures[SECONDCOOP_REFUSAL] != SECONDCOOP_BAD_NUMBER;
     wrong += figures[SECONDCOOP_POSITION] != 3;
     secondcoop_plan(plan, sizeof plan, 0, 2, 0, anchor, 3, anchor, 0, 0, schedule, 2, 9,
-                    route, 3, log, 1, work, sizeof work / sizeof work[0], figures);
+                    route, 3, log, 1, work, sizeof work / sizeof work[0],
+                    wide, sizeof wide / sizeof wide[0], figures);
     wrong += figures[SECONDCOOP_PLAN_ENDING] != SECONDCOOP_ROUTE;
     wrong += figures[SECONDCOOP_PLAN_COST] != 5 || figures[SECONDCOOP_PLAN_LENGTH] != 2;
     wrong += figures[SECONDCOOP_PLAN_ROUNDS] != 1 || figures[SECONDCOOP_PLAN_TURNS] != 1;
     wrong += figures[SECONDCOOP_PLAN_BOUND] != 60000;
     secondcoop_plan(plan, 4, 0, 2, 0, anchor, 3, anchor, 0, 0, schedule, 2, 9,
-                    route, 3, log, 1, work, sizeof work / sizeof work[0], figures);
+                    route, 3, log, 1, work, sizeof work / sizeof work[0],
+                    wide, sizeof wide / sizeof wide[0], figures);
     wrong += figures[SECONDCOOP_PLAN_ENDING] != SECONDCOOP_REFUSED;
     wrong += figures[SECONDCOOP_PLAN_REFUSAL] != SECONDCOOP_BAD_NUMBER;
     wrong += figures[SECONDCOOP_PLAN_POSITION] != 4;
@@ -97,20 +102,24 @@ static void planner(void)
 {
     static const uint32_t anchor[] = {0, 0}, guides[] = {1, 1};
     static const uint8_t plan[] = {2, 0};
-    uint32_t route[2] = {7, 7}, log[1] = {7}, work[11];
-    const uint32_t none = SECONDCOOP_NONE;
-    uint64_t figures[SECONDCOOP_PLAN_FIGURES];
+    uint32_t route[2] = {7, 7}, log[1] = {7}, work[7];
+    uint64_t figures[SECONDCOOP_PLAN_FIGURES], wide[4];
     secondcoop_plan(plan, sizeof plan, 0, 1, 0, anchor, 2, guides, 2, 1, guides, 0, 9,
-                    route, 2, log, 1, work, 11, figures);
+                    route, 2, log, 1, work, 7, wide, 4, figures);
     expect("plan", figures, (const uint64_t[]){SECONDCOOP_NO_ROUTE, 0, 0, 0, 0, 0, 1, 0}, 8);
-    if (route[0] != 7 || log[0] != 0 || work[4] != 0 || work[8] != none)
+    /* No lanes; the guide refuses place 0, since its key is too great, and the
+     * anchor expands it. */
+    const uint32_t words[7] = {0, 0, 0, SECONDCOOP_NONE, 2, SECONDCOOP_NONE, 0};
+    if (route[0] != 7 || log[0] != 0 || memcmp(work, words, sizeof words) != 0)
         wrong++;
+    expect("wide memory", wide,
+           (const uint64_t[]){0, 0, SECONDCOOP_UNREACHED, SECONDCOOP_UNREACHED}, 4);
     secondcoop_plan(plan, sizeof plan, 0, 1, 0, anchor, 2, guides, 2, 1, guides, 0, 0,
-                    route, 2, log, 1, work, 11, figures);
+                    route, 2, log, 1, work, 7, wide, 4, figures);
     expect("plan without turns", figures,
            (const uint64_t[]){SECONDCOOP_UNFINISHED, 0, 0, 0, 0, 0, 0, 0}, 8);
     secondcoop_plan(plan, sizeof plan, 0, 2, 0, anchor, 2, guides, 2, 1, guides, 0, 9,
-                    route, 2, log, 1, work, 11, figures);
+                    route, 2, log, 1, work, 7, wide, 4, figures);
     expect("plan refuses", figures,
            (const uint64_t[]){SECONDCOOP_REFUSED, 8, 0, 0, 0, 0, 0, 0}, 8);
 }
@@ -135,11 +144,12 @@ static void barred(void)
         {SECONDCOOP_MAX_BARRED + 1, SECONDCOOP_REFUSED, 0},
     };
     uint32_t route[3], log[1], work[SECONDCOOP_WORK_WORDS(3, 3)];
-    uint64_t figures[SECONDCOOP_PLAN_FIGURES];
+    uint64_t wide[SECONDCOOP_WIDE_NUMBERS(3)], figures[SECONDCOOP_PLAN_FIGURES];
     for (size_t at = 0; at < sizeof calls / sizeof *calls; at++) {
         secondcoop_plan(plan, sizeof plan, 0, 2, calls[at].barred, anchor, 3, anchor, 0, 0,
                         anchor, 0, 99, route, 3, log, 1,
-                        work, sizeof work / sizeof work[0], figures);
+                        work, sizeof work / sizeof work[0],
+                        wide, sizeof wide / sizeof wide[0], figures);
         wrong += figures[SECONDCOOP_PLAN_ENDING] != calls[at].ending;
         wrong += figures[SECONDCOOP_PLAN_COST] != calls[at].cost;
     }
@@ -164,13 +174,16 @@ static void text(void)
 }
 
 /* Sizes, also within other expressions. */
-_Static_assert(SECONDCOOP_PLAN_BYTES(0) == 6 && SECONDCOOP_PLAN_BYTES(1) == 16, "plan bytes");
-_Static_assert(2 * SECONDCOOP_PLAN_BYTES(2 + 2) == 92, "plan bytes");
-_Static_assert(SECONDCOOP_PLAN_BYTES(SECONDCOOP_MAX_LANES) == 327686, "plan bytes");
+_Static_assert(SECONDCOOP_PLAN_BYTES(0) == 6 && SECONDCOOP_PLAN_BYTES(1) == 17, "plan bytes");
+_Static_assert(2 * SECONDCOOP_PLAN_BYTES(2 + 2) == 100, "plan bytes");
+_Static_assert(SECONDCOOP_MAX_PLAN_BYTES == 360454, "plan bytes");
 _Static_assert(2 * SECONDCOOP_ROUTE_WORDS(2 + 2) == 8, "route words");
-_Static_assert(2 * SECONDCOOP_WORK_WORDS(2 + 2, 2 + 3) == 72, "work words");
-_Static_assert(SECONDCOOP_WORK_WORDS(1, 0) == 6, "work words");
-_Static_assert(SECONDCOOP_WORK_WORDS(4096, 32768) == 118785, "work words");
+_Static_assert(2 * SECONDCOOP_WORK_WORDS(2 + 2, 2 + 3) == 56, "work words");
+_Static_assert(SECONDCOOP_WORK_WORDS(1, 0) == 4, "work words");
+_Static_assert(SECONDCOOP_WORK_WORDS(4096, 32768) == 110593, "work words");
+_Static_assert(2 * SECONDCOOP_WIDE_NUMBERS(2 + 2) == 16, "wide numbers");
+_Static_assert(SECONDCOOP_WIDE_NUMBERS(4096) == 8192, "wide numbers");
+_Static_assert(SECONDCOOP_UNREACHED == UINT64_MAX, "not reached");
 _Static_assert(SECONDCOOP_CLASS(0) == 1 && SECONDCOOP_CLASS(7 - 1) == 64, "classes");
 _Static_assert((SECONDCOOP_CLASS(SECONDCOOP_MAX_CLASS) << 1) - 1 == SECONDCOOP_MAX_BARRED,
                "classes");
@@ -195,13 +208,15 @@ static void plan_refusals(void)
     refused_plan(#number, (const uint8_t[]){__VA_ARGS__}, \
                  sizeof (const uint8_t[]){__VA_ARGS__}, number, position)
     REFUSED(SECONDCOOP_BAD_NUMBER, 1, 4, 0x80, 0);
+    REFUSED(SECONDCOOP_BAD_NUMBER, 1, 4, 0x80, 0x80, 0x80, 0x80, 1);
     REFUSED(SECONDCOOP_BAD_PLACE_COUNT, 0, 0, 0);
     REFUSED(SECONDCOOP_BAD_PLACE_COUNT, 0, 0x81, 0x20, 0);
     REFUSED(SECONDCOOP_NOT_REFUSED, 0, 0x80, 0x20, 0);
     REFUSED(SECONDCOOP_BAD_LANE_COUNT, 1, 4, 0x81, 0x80, 0x02);
+    REFUSED(SECONDCOOP_BAD_LANE_COUNT, 1, 4, 0x80, 0x80, 0x80, 1);
     REFUSED(SECONDCOOP_NOT_A_PLACE, 3, 4, 1, 0, 4, 1, 0);
-    REFUSED(SECONDCOOP_BAD_COST, 4, 4, 1, 0, 1, 0xC1, 0x84, 0x3D, 8);
-    REFUSED(SECONDCOOP_BAD_CLASS, 7, 4, 1, 0, 1, 0xC0, 0x84, 0x3D, 8);
+    REFUSED(SECONDCOOP_BAD_COST, 4, 4, 1, 0, 1, 0x81, 0xC8, 0xD0, 0x07, 8);
+    REFUSED(SECONDCOOP_BAD_CLASS, 8, 4, 1, 0, 1, 0x80, 0xC8, 0xD0, 0x07, 8);
     REFUSED(SECONDCOOP_BAD_LANE_ORDER, 7, 4, 2, 0, 1, 1, 0, 0, 1, 1, 0);
     REFUSED(SECONDCOOP_BYTES_LEFT_OVER, 2, 4, 0, 0);
 #undef REFUSED
@@ -210,33 +225,38 @@ static void plan_refusals(void)
 /* Job A's floor with one argument that is refused. */
 static void refused_call(const char *name, uint32_t goal, uint32_t barred, size_t anchor_length,
                          uint32_t second, uint32_t last, uint32_t factor,
-                         size_t route_length, size_t work_length, uint64_t number,
-                         uint64_t position)
+                         size_t route_length, size_t work_length, size_t wide_length,
+                         uint64_t number, uint64_t position)
 {
     const uint32_t anchor[] = {6, second, 3, last}, schedule[] = {factor, 100};
     uint32_t route[4], log[1], work[SECONDCOOP_WORK_WORDS(4, 4)];
-    uint64_t figures[SECONDCOOP_PLAN_FIGURES];
+    uint64_t wide[SECONDCOOP_WIDE_NUMBERS(4)], figures[SECONDCOOP_PLAN_FIGURES];
     secondcoop_plan(plan_a, sizeof plan_a, 0, goal, barred, anchor, anchor_length, anchor, 0, 0,
-                    schedule, 2, 9, route, route_length, log, 1, work, work_length, figures);
+                    schedule, 2, 9, route, route_length, log, 1, work, work_length,
+                    wide, wide_length, figures);
     expect(name, figures,
            (const uint64_t[]){SECONDCOOP_REFUSED, number, position, 0, 0, 0, 0, 0}, 8);
 }
 
 static void call_refusals(void)
 {
-    refused_call("goal", 4, 0, 4, 5, 0, 100, 4, 33, SECONDCOOP_BAD_ENDS_OR_BARRED, 0);
-    refused_call("barred", 3, 256, 4, 5, 0, 100, 4, 33, SECONDCOOP_BAD_ENDS_OR_BARRED, 0);
-    refused_call("tables", 3, 0, 3, 5, 0, 100, 4, 33, SECONDCOOP_BAD_TABLES, 0);
-    refused_call("schedule", 3, 0, 4, 5, 0, SECONDCOOP_MIN_FACTOR - 1, 4, 33,
+    refused_call("goal", 4, 0, 4, 5, 0, 100, 4, 25, 8, SECONDCOOP_BAD_ENDS_OR_BARRED, 0);
+    refused_call("barred", 3, 256, 4, 5, 0, 100, 4, 25, 8, SECONDCOOP_BAD_ENDS_OR_BARRED, 0);
+    refused_call("tables", 3, 0, 3, 5, 0, 100, 4, 25, 8, SECONDCOOP_BAD_TABLES, 0);
+    refused_call("schedule", 3, 0, 4, 5, 0, SECONDCOOP_MIN_FACTOR - 1, 4, 25, 8,
                  SECONDCOOP_BAD_SCHEDULE, 0);
-    refused_call("schedule", 3, 0, 4, 5, 0, SECONDCOOP_MAX_FACTOR + 1, 4, 33,
+    refused_call("schedule", 3, 0, 4, 5, 0, SECONDCOOP_MAX_FACTOR + 1, 4, 25, 8,
                  SECONDCOOP_BAD_SCHEDULE, 0);
-    refused_call("route memory", 3, 0, 4, 5, 0, 100, 3, 33, SECONDCOOP_SHORT_MEMORY, 0);
-    refused_call("work memory", 3, 0, 4, 5, 0, 100, 4, 32, SECONDCOOP_SHORT_MEMORY, 0);
-    refused_call("anchor at goal", 3, 0, 4, 5, 1, 100, 4, 33, SECONDCOOP_ANCHOR_NOT_0_AT_GOAL, 0);
+    refused_call("route memory", 3, 0, 4, 5, 0, 100, 3, 25, 8, SECONDCOOP_SHORT_MEMORY, 0);
+    refused_call("work memory", 3, 0, 4, 5, 0, 100, 4, 24, 8, SECONDCOOP_SHORT_MEMORY, 0);
+    refused_call("wide memory", 3, 0, 4, 5, 0, 100, 4, 25, 7, SECONDCOOP_SHORT_MEMORY, 0);
+    refused_call("anchor at goal", 3, 0, 4, 5, 1, 100, 4, 25, 8,
+                 SECONDCOOP_ANCHOR_NOT_0_AT_GOAL, 0);
     /* The anchor's 6 at place 1 is above cost 2 + 3 on lane 2, barred or not. */
-    refused_call("anchor on lane", 3, 0, 4, 6, 0, 100, 4, 33, SECONDCOOP_ANCHOR_BREAKS_RULE, 2);
-    refused_call("anchor on lane", 3, 255, 4, 6, 0, 100, 4, 33, SECONDCOOP_ANCHOR_BREAKS_RULE, 2);
+    refused_call("anchor on lane", 3, 0, 4, 6, 0, 100, 4, 25, 8,
+                 SECONDCOOP_ANCHOR_BREAKS_RULE, 2);
+    refused_call("anchor on lane", 3, 255, 4, 6, 0, 100, 4, 25, 8,
+                 SECONDCOOP_ANCHOR_BREAKS_RULE, 2);
     char printed[32], wanted[32];
     const size_t length = secondcoop_bench_text(plan_a, 0, (uint8_t *)printed, sizeof printed);
     snprintf(wanted, sizeof wanted, "refused %d at 0\n", SECONDCOOP_NOT_A_JOB);

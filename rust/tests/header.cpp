@@ -25,12 +25,14 @@ int main()
     wrong += figures[SECONDCOOP_FIRST] != sizeof plan;
     static const uint32_t anchor[3] = {0, 0, 0};
     uint32_t route[3], log[1], work[SECONDCOOP_WORK_WORDS(3, 1)];
+    uint64_t wide[SECONDCOOP_WIDE_NUMBERS(3)];
     const uint32_t allowance = SECONDCOOP_TURNS(3, SECONDCOOP_HOUSE_ROUNDS);
     secondcoop_plan(plan, sizeof plan, 0, 2, SECONDCOOP_CLASS(6), anchor, 3, anchor, 0, 0,
                     anchor, 0, allowance, route, 3, log, 1,
-                    work, sizeof work / sizeof work[0], figures);
+                    work, sizeof work / sizeof work[0],
+                    wide, sizeof wide / sizeof wide[0], figures);
     wrong += figures[SECONDCOOP_PLAN_ENDING] != SECONDCOOP_ROUTE;
-    wrong += figures[SECONDCOOP_PLAN_COST] != 5;
+    wrong += figures[SECONDCOOP_PLAN_COST] != 5 || wide[3] != SECONDCOOP_UNREACHED;
     wrong += secondcoop_bench_text(job, sizeof job, out, sizeof out) != 40;
     return wrong;
 }

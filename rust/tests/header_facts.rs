@@ -30,7 +30,10 @@ fn numbers() -> BTreeMap<String, u64> {
             [name, "=", number] => (name, number.trim_end_matches(',')),
             _ => continue,
         };
-        let digits = number.trim_start_matches("UINT32_C(").trim_end_matches(')');
+        let digits = ["UINT32_C(", "UINT64_C("]
+            .iter()
+            .find_map(|begin| number.strip_prefix(begin)?.strip_suffix(')'))
+            .unwrap_or(number);
         if let (Some(name), Ok(number)) = (name.strip_prefix("SECONDCOOP_"), digits.parse()) {
             assert_eq!(numbers.insert(name.to_string(), number), None, "{name}");
         }
@@ -51,6 +54,7 @@ fn numbers_are_those_of_the_second_planner() {
         ("MAX_BARRED", u64::from(planner::MOST_BARRED)),
         ("HOUSE_ROUNDS", HOUSE_SCHEDULE.len() as u64 / 2),
         ("NONE", u64::from(planner::NONE)),
+        ("UNREACHED", planner::UNREACHED),
         ("FIGURES", ffi::Figures::default().len() as u64),
         ("PLAN_FIGURES", planner::Figures::default().len() as u64),
         ("ROUTE", 0),
@@ -106,6 +110,16 @@ fn limits_of_a_call_are_exact() {
         refusal_of(&Job { barred, ..job })
     });
     assert_eq!(numbers, [0, 0, 8]);
+    let most = number("MAX_COST");
+    let costs = [0, 1_000_001, most, most + 1].map(|cost| {
+        let mut plan = generate::Plan::without_edges(1);
+        plan.tails.push(0);
+        plan.heads.push(0);
+        plan.costs.push(cost);
+        plan.classes.push(0);
+        refusal_of(&Job::new(&plan, 0, 0, vec![0], vec![], 0, vec![], 9))
+    });
+    assert_eq!(costs, [0, 0, 0, 5]);
 }
 
 /// 2·V turns for the first round, 2·V times the rounds for all.

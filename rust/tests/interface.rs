@@ -250,6 +250,8 @@ fn a_change_in_the_header_is_found() {
             "uint32_t *log, size_t log_length",
             "size_t log_length, uint32_t *log",
         ),
+        ("uint64_t *wide", "uint32_t *wide"),
+        ("uint64_t *wide, size_t wide_length,", ""),
         (
             "size_t at, uint64_t *figures",
             "uint64_t *figures, size_t at",
@@ -274,6 +276,8 @@ fn a_change_in_the_rust_declarations_is_found() {
             "goal: u32,\n        start: u32",
         ),
         ("        barred: u32,\n", ""),
+        ("wide: *mut u64", "wide: *mut u32"),
+        ("        wide_length: usize,\n", ""),
         ("classes: *const u32", "classes: *mut u32"),
         ("budget: u32", "budget: u64"),
         ("anchor: *const u32", "anchor: *mut u32"),
@@ -294,6 +298,7 @@ fn a_change_in_the_exports_is_found() {
         ),
         ("log: &mut [u32]", "log: &[u32]"),
         ("work: &mut [u32]", "work: &mut [u64]"),
+        ("wide: &mut [u64]", "wide: &mut [u32]"),
         ("-> usize", "-> u32"),
         ("#[no_mangle]", ""),
     ];

@@ -47,13 +47,13 @@ static size_t depth(void (*call)(int), int variant)
 /* A plan of all places and lanes, as lists and as bytes, eight tables, a
  * schedule of all rounds, and memory for all of them. */
 static uint32_t tails[LANES], heads[LANES], costs[LANES], classes[LANES];
-static uint8_t plan[SECONDCOOP_PLAN_BYTES(LANES)];
+static uint8_t plan[SECONDCOOP_MAX_PLAN_BYTES];
 static size_t plan_length;
 static uint32_t tables[9 * PLACES], schedule[2 * SECONDCOOP_MAX_ROUNDS];
 static uint32_t route[PLACES];
 static uint32_t log_words[SECONDCOOP_TURNS(PLACES, SECONDCOOP_MAX_ROUNDS)];
 static uint32_t work[SECONDCOOP_WORK_WORDS(PLACES, LANES)];
-static uint64_t figures[SECONDCOOP_PLAN_FIGURES];
+static uint64_t wide[SECONDCOOP_WIDE_NUMBERS(PLACES)], figures[SECONDCOOP_PLAN_FIGURES];
 static uint8_t text[SECONDCOOP_MAX_TEXT];
 
 static void fill(void)
@@ -83,7 +83,7 @@ static const uint8_t number[] = {0xFF, 0xFF, 0xFF, 0xFF, 0x0F, 0xFF, 0xFF, 0xFF,
 /* Variant 0 is accepted, others are refused. */
 static void read_plan_number(int variant)
 {
-    secondcoop_read_plan_number(number, sizeof number, variant ? 5 : 2, figures);
+    secondcoop_read_plan_number(number, sizeof number, variant ? 5 : 1, figures);
     expect(figures[SECONDCOOP_REFUSAL], variant ? SECONDCOOP_BAD_NUMBER : 0);
 }
 
@@ -95,7 +95,7 @@ static void read_job_number(int variant)
 
 static void write_plan_number(int variant)
 {
-    secondcoop_write_plan_number(text, variant ? 2 : 3, 0, SECONDCOOP_MAX_COST, figures);
+    secondcoop_write_plan_number(text, variant ? 3 : 4, 0, SECONDCOOP_MAX_COST, figures);
     expect(figures[SECONDCOOP_REFUSAL], variant ? SECONDCOOP_SHORT_MEMORY : 0);
 }
 
@@ -124,8 +124,8 @@ static void read_plan(int variant)
 /* A route over the floor; sixteen rounds that finish at once; no route, since
  * the bytes are those of a plan without lanes; unfinished at once and after
  * some turns; refusals 1, 8, 9, 10, 11, 12, 13; a route with one class barred,
- * and no route with all. */
-enum { PLAN_CALLS = 14 };
+ * and no route with all; refusal 11 for each kind of work memory. */
+enum { PLAN_CALLS = 16 };
 
 static void plan_call(int variant)
 {
@@ -135,7 +135,7 @@ static void plan_call(int variant)
         SECONDCOOP_UNFINISHED, SECONDCOOP_UNFINISHED, SECONDCOOP_REFUSED,
         SECONDCOOP_REFUSED, SECONDCOOP_REFUSED, SECONDCOOP_REFUSED,
         SECONDCOOP_REFUSED, SECONDCOOP_REFUSED, SECONDCOOP_REFUSED,
-        SECONDCOOP_ROUTE, SECONDCOOP_NO_ROUTE};
+        SECONDCOOP_ROUTE, SECONDCOOP_NO_ROUTE, SECONDCOOP_REFUSED, SECONDCOOP_REFUSED};
     const uint32_t goal = variant == 1 ? 0 : variant == 6 ? PLACES : PLACES - 1;
     const uint32_t barred = variant == 12   ? SECONDCOOP_CLASS(5)
                             : variant == 13 ? SECONDCOOP_MAX_BARRED
@@ -150,7 +150,8 @@ static void plan_call(int variant)
                     variant == 7 ? 9 : 8, schedule, 2 * SECONDCOOP_MAX_ROUNDS, budget,
                     route, PLACES - (variant == 9 ? 1 : 0),
                     log_words, sizeof log_words / sizeof *log_words,
-                    work, sizeof work / sizeof *work, figures);
+                    work, sizeof work / sizeof *work - (variant == 14 ? 1 : 0),
+                    wide, sizeof wide / sizeof *wide - (variant == 15 ? 1 : 0), figures);
     expect(figures[SECONDCOOP_PLAN_ENDING], endings[variant]);
     if (variant < 2)
         expect(figures[SECONDCOOP_PLAN_ROUNDS], SECONDCOOP_MAX_ROUNDS);
