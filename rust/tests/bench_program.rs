@@ -37,7 +37,7 @@ fn the_examples_are_printed() {
             count += 1;
         }
     }
-    assert!(count >= 21, "{count} examples");
+    assert!(count >= 22, "{count} examples");
 }
 
 /// A job of 32,768 bytes, and more bytes after it: a plan of one place with

@@ -49,6 +49,7 @@ fn all_are_there() {
         "held",
         "ramp",
         "ramp-barred",
+        "yard",
     ];
     wanted.extend(floors.map(String::from));
     wanted.sort();

@@ -486,6 +486,38 @@ fn a_barred_class_is_kept_off() {
     assert_eq!(refused, left(3, "refused 15 at 9\n", words));
 }
 
+/// Costs go to 16,000,000, and one above is told in words.
+#[test]
+fn a_cost_above_the_limit() {
+    let yard = job(&["run"], read("yard.txt"));
+    assert_eq!(yard, left(0, &read("yard.out"), ""));
+    let above = with("yard.txt", "lane 4 3 16000000 0", "lane 4 3 16000001 0");
+    let line = above.lines().position(|line| line.contains("16000001"));
+    let line = line.expect("a lane") + 1;
+    let words = format!("line {line}: cost 16000001 is above 16000000 (refusal 5)\n");
+    let refused = job(&["run"], &above);
+    assert_eq!((refused.status, &refused.err), (3, &words));
+    assert!(refused.out.starts_with("refused 5 at "), "{}", refused.out);
+    // What no plan number says is told as a line that cannot be read.
+    let above = with("yard.txt", "16000000", "268435456");
+    let words = format!("standard input: line {line}: cost 268435456 is above 16000000\n");
+    assert_eq!(job(&["run"], above), left(4, "", &words));
+    let pairs = "02 01 00 01 80 C8 D0 07 00\n";
+    let text = "places 2\nlane 0 1 16000000 0\n";
+    assert_eq!(plan(&[], text), left(0, pairs, ""));
+    assert_eq!(plan(&[], pairs), left(0, text, ""));
+    let words = "refused 5 at 0, lane 0 counted from 0, line 2: a cost is above 16000000\n";
+    let above = text.replace("16000000", "16000001");
+    assert_eq!(plan(&[], above), left(3, "", words));
+    let words = "refused 5 at 4, byte 4 counted from 0: a cost is above 16000000\n";
+    let above = pairs.replace("80 C8", "81 C8");
+    assert_eq!(plan(&[], above), left(3, "", words));
+    let five = job(&["describe", "5"], "").out;
+    assert!(five.starts_with("refusal 5: a cost is above 16000000; "));
+    let one = job(&["describe", "1"], "").out;
+    assert!(one.contains("longer than four groups"), "{one}");
+}
+
 #[test]
 fn the_exit_status_tells_the_ending() {
     for (name, status) in [
@@ -495,6 +527,7 @@ fn the_exit_status_tells_the_ending() {
         ("start-is-goal", 0),
         ("ramp", 0),
         ("ramp-barred", 0),
+        ("yard", 0),
         ("no-route", 1),
         ("refusal-01", 3),
         ("refusal-13", 3),
