@@ -73,40 +73,44 @@ pub fn read_job_number(bytes: &[u8], at: usize) -> Result<(u32, usize), Refusal>
 /// How many groups a plan number takes, if four are enough.
 #[inline]
 fn plan_number_length(value: u32) -> Option<usize> {
-    match value {
-        0..=0x7F => Some(1),
-        0x80..=0x3FFF => Some(2),
-        0x4000..=0x1F_FFFF => Some(3),
-        0x20_0000..=MOST_IN_FOUR_GROUPS => Some(4),
-        _ => None,
-    }
+    // Without branches: with four arms of a match it takes nearly twice as long.
+    let more = [0x80, 0x4000, 0x20_0000].map(|first| usize::from(value >= first));
+    let [two, three, four] = more;
+    (value <= MOST_IN_FOUR_GROUPS).then_some(1 + two + three + four)
 }
 
 /// Writes a plan number at an offset and gives the offset after it.
 #[inline]
 pub fn write_plan_number(out: &mut [u8], at: usize, value: u32) -> Result<usize, Refusal> {
-    let Some(length) = plan_number_length(value) else {
+    if value > MOST_IN_FOUR_GROUPS {
         return refuse(1, 0);
-    };
-    match (length, out.get_mut(at..)) {
-        (1, Some([a, ..])) => *a = value as u8,
-        (2, Some([a, b, ..])) => {
+    }
+    // By comparisons: by the count of groups it takes nearly twice as long.
+    let length = match out.get_mut(at..) {
+        Some([a, ..]) if value < 0x80 => {
+            *a = value as u8;
+            1
+        }
+        Some([a, b, ..]) if (0x80..0x4000).contains(&value) => {
             *a = value as u8 | 0x80;
             *b = (value >> 7) as u8;
+            2
         }
-        (3, Some([a, b, c, ..])) => {
+        Some([a, b, c, ..]) if (0x4000..0x20_0000).contains(&value) => {
             *a = value as u8 | 0x80;
             *b = (value >> 7) as u8 | 0x80;
             *c = (value >> 14) as u8;
+            3
         }
-        (4, Some([a, b, c, d, ..])) => {
+        Some([a, b, c, d, ..]) if value >= 0x20_0000 => {
             *a = value as u8 | 0x80;
             *b = (value >> 7) as u8 | 0x80;
             *c = (value >> 14) as u8 | 0x80;
             *d = (value >> 21) as u8;
+            4
         }
         _ => return refuse(11, 0),
-    }
+    };
     Ok(at + length)
 }
 

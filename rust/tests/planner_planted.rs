@@ -603,8 +603,9 @@ impl Faulty {
             Border::ThreeGroups => (1, first_number(request.bytes, |_, _, groups| groups == 4)?),
             // Costs come after V, M, tail and head, and after each other four.
             Border::OldCostLimit => {
-                let dear =
-                    |index: usize, value, _| index % 4 == 0 && index > 0 && value > 1_000_000;
+                let dear = |index: usize, value, _| {
+                    index > 0 && index.is_multiple_of(4) && value > 1_000_000
+                };
                 (5, first_number(request.bytes, dear)?)
             }
             _ => return None,
