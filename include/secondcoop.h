@@ -84,11 +84,12 @@ extern "C" {
  * be written anew.
  *
  * Version 3: costs go to 16000000 and plan numbers have up to four groups;
- * refusals 1 and 5 move to these limits. Costs of places are 64-bit numbers
- * in wide memory, which a planner call is lent after work memory: work
- * memory has 2V words less, and refusal 11 covers both. Not reached and never
- * expanded is now SECONDCOOP_UNREACHED. Plan bytes of version 2 are plan
- * bytes still, and of the same plan.
+ * refusals 1 and 5 move to these limits. The costs of places are 64-bit
+ * numbers in wide memory, which a planner call is lent after work memory;
+ * work memory has 2V words less, and refusal 11 covers both. For not reached
+ * and never expanded SECONDCOOP_UNREACHED stands there, and a kept cost may
+ * pass 32 bits. Plan bytes of version 2 are plan bytes still, and of the same
+ * plan.
  */
 #define SECONDCOOP_VERSION 3
 

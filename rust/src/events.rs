@@ -124,8 +124,19 @@ impl Seen {
         self.by_anchor_before.append(&mut self.by_anchor);
     }
 
-    fn turn(&mut self, table: u32, vertex: u32, no_line: bool, guide_count: u32) {
+    fn turn(&mut self, event: &Event, guide_count: u32) {
+        let &Event::Turn {
+            table,
+            vertex,
+            g,
+            no_line,
+            ..
+        } = event
+        else {
+            return;
+        };
         self.turns_in_round += 1;
+        self.wide |= is_wide(g);
         self.twice |= self.in_round.contains(&vertex);
         self.again |= self.by_anchor_before.contains(&vertex);
         self.in_round.push(vertex);
@@ -200,16 +211,7 @@ impl Events {
         for event in &events {
             match *event {
                 Event::Begin { .. } => seen.begin(),
-                Event::Turn {
-                    table,
-                    vertex,
-                    g,
-                    no_line,
-                    ..
-                } => {
-                    seen.turn(table, vertex, no_line, job.guide_count);
-                    seen.wide |= is_wide(g);
-                }
+                Event::Turn { .. } => seen.turn(event, job.guide_count),
                 Event::Finish { .. } => self.count_finish(job, event, &mut seen),
                 Event::Cut { round, turns } => {
                     self.count_cut(job, round, turns, seen.turns_in_round == 0);

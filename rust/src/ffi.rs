@@ -207,12 +207,6 @@ pub fn plan(request: &Request, memory: Memory) -> planner::Figures {
         schedule,
         budget,
     } = request;
-    let Memory {
-        route,
-        log,
-        work,
-        wide,
-    } = memory;
     // SAFETY: as above, and the memory is lent mutably and is disjoint.
     figures_of(|figures| unsafe {
         secondcoop_plan(
@@ -229,14 +223,14 @@ pub fn plan(request: &Request, memory: Memory) -> planner::Figures {
             schedule.as_ptr(),
             schedule.len(),
             budget,
-            route.as_mut_ptr(),
-            route.len(),
-            log.as_mut_ptr(),
-            log.len(),
-            work.as_mut_ptr(),
-            work.len(),
-            wide.as_mut_ptr(),
-            wide.len(),
+            memory.route.as_mut_ptr(),
+            memory.route.len(),
+            memory.log.as_mut_ptr(),
+            memory.log.len(),
+            memory.work.as_mut_ptr(),
+            memory.work.len(),
+            memory.wide.as_mut_ptr(),
+            memory.wide.len(),
             figures,
         )
     })

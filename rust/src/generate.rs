@@ -462,24 +462,26 @@ pub fn numbers(seed: u64, count: usize, sink: Sink) {
     }
 }
 
+/// Numbers at the ends of groups, and above the largest.
+const NUMBER_ENDS: [u32; 13] = [
+    0,
+    1,
+    127,
+    128,
+    16_383,
+    16_384,
+    MOST_OF_THREE,
+    MOST_OF_THREE + 1,
+    MOST_NUMBER - 1,
+    MOST_NUMBER,
+    MOST_NUMBER + 1,
+    1 << 31,
+    u32::MAX,
+];
+
 /// Numbers written at any offset, with and without room.
 pub fn written_numbers(seed: u64, count: usize, sink: Sink) {
     let mut random = Random::new(seed);
-    let ends = [
-        0,
-        1,
-        127,
-        128,
-        16_383,
-        16_384,
-        MOST_OF_THREE,
-        MOST_OF_THREE + 1,
-        MOST_NUMBER - 1,
-        MOST_NUMBER,
-        MOST_NUMBER + 1,
-        1 << 31,
-        u32::MAX,
-    ];
     for _ in 0..count {
         let room = random.index(8);
         let at = match random.below(16) {
@@ -488,7 +490,7 @@ pub fn written_numbers(seed: u64, count: usize, sink: Sink) {
             _ => random.index(room + 3),
         };
         let value = match random.below(3) {
-            0 => random.pick(&ends),
+            0 => random.pick(&NUMBER_ENDS),
             1 => random.range32(0, MOST_NUMBER),
             _ => random.of_any_size(32) as u32,
         };

@@ -417,13 +417,14 @@ mod tests {
     fn every_wide_number_is_compared() {
         let (_, mut job) = jobs::random_job(&mut Random::new(2), jobs::Shape::Grid);
         job.wide_room += 3;
-        for index in 0..job.wide_room {
-            for bit in [0, 31, 32, 63] {
-                let changed = Changed { index, bit };
-                let mut comparison = Comparison::new(&changed, &SecondPlanner);
-                let words = comparison.job_differs(&job, None).expect("a difference");
-                assert!(words.starts_with("wide memory differ: "), "{words}");
-            }
+        let changes = (0..job.wide_room).flat_map(|index| {
+            let bits = [0, 31, 32, 63].into_iter();
+            bits.map(move |bit| Changed { index, bit })
+        });
+        for changed in changes {
+            let mut comparison = Comparison::new(&changed, &SecondPlanner);
+            let words = comparison.job_differs(&job, None).expect("a difference");
+            assert!(words.starts_with("wide memory differ: "), "{words}");
         }
     }
 

@@ -162,10 +162,8 @@ fn a_cost_above_16_000_000_is_refusal_5_at_its_first_byte() {
             }
         }
         // The writer takes any 32-bit number.
-        for cost in [268_435_456, u32::MAX] {
-            let answer = codec.write_plan(1, &[0], &[0], &[cost], &[0], &mut []);
-            assert_eq!(answer, [5, 0, 0, 0]);
-        }
+        let written = |cost| codec.write_plan(1, &[0], &[0], &[cost], &[0], &mut []);
+        assert_eq!([268_435_456, u32::MAX].map(written), [[5, 0, 0, 0]; 2]);
     });
 }
 
@@ -220,6 +218,24 @@ fn every_plan_number_may_have_four_groups() {
     });
 }
 
+/// A number's groups are written where there is room for all of them, and
+/// nothing where there is not.
+fn written_in_every_room(codec: &dyn Codec, value: u32, groups: &[u8]) {
+    for room in 0..6 {
+        let mut out = vec![0xEE; room];
+        let answer = codec.write_plan_number(&mut out, 0, value);
+        let mut expected = vec![0xEE; room];
+        match expected.get_mut(..groups.len()) {
+            Some(written) => {
+                written.copy_from_slice(groups);
+                assert_eq!(answer, [0, 0, groups.len() as u64, 0]);
+            }
+            None => assert_eq!(answer, [11, 0, 0, 0]),
+        }
+        assert_eq!(out, expected);
+    }
+}
+
 /// Numbers at the ends of groups are read as they are written.
 #[test]
 fn numbers_at_the_ends_of_groups() {
@@ -234,23 +250,19 @@ fn numbers_at_the_ends_of_groups() {
             (2_097_152, &[0x80, 0x80, 0x80, 1]),
             (268_435_455, &[0xFF, 0xFF, 0xFF, 0x7F]),
         ] {
-            let length = groups.len();
-            for room in 0..6 {
-                let mut out = vec![0xEE; room];
-                let answer = codec.write_plan_number(&mut out, 0, value);
-                if room < length {
-                    assert_eq!((answer, out), ([11, 0, 0, 0], vec![0xEE; room]));
-                    continue;
-                }
-                assert_eq!(answer, [0, 0, length as u64, 0]);
-                assert_eq!(out[..length], *groups);
-                assert!(out[length..].iter().all(|&byte| byte == 0xEE));
-            }
-            let figures = [0, 0, value.into(), length as u64];
+            written_in_every_room(codec, value, groups);
+            let figures = [0, 0, value.into(), groups.len() as u64];
             assert_eq!(codec.read_plan_number(groups, 0), figures);
             assert_eq!(codec.read_job_number(groups, 0), figures);
         }
-        // What four groups cannot hold is not written; job numbers have five.
+    });
+}
+
+/// What four groups cannot hold is not written and not read; job numbers have
+/// five.
+#[test]
+fn numbers_of_five_groups() {
+    on_both(|codec| {
         for value in [268_435_456, 1 << 31, u32::MAX] {
             let mut out = [0xEE; 6];
             let answer = codec.write_plan_number(&mut out, 0, value);

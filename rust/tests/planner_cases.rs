@@ -275,8 +275,8 @@ fn a_barred_class_is_not_used() {
             79, 79,
         ];
         assert_eq!(lent.work, work);
-        let u = UNREACHED;
-        assert_eq!(lent.wide, [0, 0, u, u, 4, 4, 7, u, 80, 80]);
+        assert_eq!(lent.wide[..4], [0, 0, UNREACHED, UNREACHED]);
+        assert_eq!(lent.wide[4..], [4, 4, 7, UNREACHED, 80, 80]);
         // Where another class is barred, all is as in job A.
         for barred in [0, 1 << 2, 1 << 7, 0b1111_1100] {
             let (answer, lent) = plan(planner, &Request { barred, ..request });
@@ -349,23 +349,26 @@ fn refused(planner: &dyn Planner, request: &Request, room: [usize; 3]) -> (u32, 
     }
 }
 
+/// The refusal of plan bytes in a call that has every other fault too.
+fn refused_plan(planner: &dyn Planner, bytes: &[u8]) -> (u32, usize) {
+    let request = Request {
+        bytes,
+        start: 9,
+        goal: 9,
+        barred: 256,
+        anchor: &[],
+        guides: &[],
+        guide_count: 9,
+        schedule: &[1],
+        budget: 0,
+    };
+    refused(planner, &request, [0; 3])
+}
+
 #[test]
 fn plan_bytes_are_refused() {
     on_both(|planner| {
-        let refused = |bytes: &[u8]| {
-            let request = Request {
-                bytes,
-                start: 9,
-                goal: 9,
-                barred: 256,
-                anchor: &[],
-                guides: &[],
-                guide_count: 9,
-                schedule: &[1],
-                budget: 0,
-            };
-            refused(planner, &request, [0; 3])
-        };
+        let refused = |bytes: &[u8]| refused_plan(planner, bytes);
         assert_eq!(refused(&[]), (1, 0));
         assert_eq!(refused(&[0x80, 0x00]), (1, 0));
         assert_eq!(refused(&[0x04]), (1, 1));
@@ -376,14 +379,6 @@ fn plan_bytes_are_refused() {
         assert_eq!(with(&[0x87, 0]), (1, 8));
         assert_eq!(with(&[]), (1, 8));
         assert_eq!(with(&[7]), (8, 0));
-        // What was refused as a number of four groups is one, and what was
-        // refused as a cost above 1,000,000 is one.
-        assert_eq!(refused(&[0x80, 0x80, 0x80, 1, 0]), (2, 0));
-        assert_eq!(refused(&[2, 0x80, 0x80, 0x80, 1]), (3, 1));
-        assert_eq!(refused(&[2, 1, 0x80, 0x80, 0x80, 1]), (4, 2));
-        assert_eq!(refused(&[2, 1, 0, 0x80, 0x80, 0x80, 1]), (4, 3));
-        assert_eq!(refused(&[2, 1, 0, 1, 0x80, 0x80, 0x80, 0x80, 1]), (1, 4));
-        assert_eq!(refused(&[2, 1, 0, 1, 0xC1, 0x84, 0x3D, 7]), (8, 0));
         // A class above 7 at each edge, at its first byte.
         for edge in 0..4 {
             for class in [8, 9, 127] {
@@ -392,6 +387,21 @@ fn plan_bytes_are_refused() {
                 assert_eq!(refused(&plan_a_of(classes)), (15, 5 + 4 * edge));
             }
         }
+    });
+}
+
+/// What was refused as a number of four groups is one, and what was refused
+/// as a cost above 1,000,000 is one.
+#[test]
+fn plan_bytes_within_the_new_limits() {
+    on_both(|planner| {
+        let refused = |bytes: &[u8]| refused_plan(planner, bytes);
+        assert_eq!(refused(&[0x80, 0x80, 0x80, 1, 0]), (2, 0));
+        assert_eq!(refused(&[2, 0x80, 0x80, 0x80, 1]), (3, 1));
+        assert_eq!(refused(&[2, 1, 0x80, 0x80, 0x80, 1]), (4, 2));
+        assert_eq!(refused(&[2, 1, 0, 0x80, 0x80, 0x80, 1]), (4, 3));
+        assert_eq!(refused(&[2, 1, 0, 1, 0x80, 0x80, 0x80, 0x80, 1]), (1, 4));
+        assert_eq!(refused(&[2, 1, 0, 1, 0xC1, 0x84, 0x3D, 7]), (8, 0));
     });
 }
 
@@ -556,18 +566,20 @@ fn each_refusal_of_the_call_in_order() {
 /// 3V+1+3M of work or 2V numbers of wide memory, and no other.
 #[test]
 fn memory_of_every_length() {
+    let lengths = |kind: usize| (0..=ROOM_A[kind] + 2).map(move |length| (kind, length));
     on_both(|planner| {
-        for (kind, needed) in ROOM_A.into_iter().enumerate() {
-            for length in 0..=needed + 2 {
-                let mut room = [6, 27, 10];
+        for (kind, length) in (0..3).flat_map(lengths) {
+            let expected = match length < ROOM_A[kind] {
+                true => (11, 0),
+                false => (0, 0),
+            };
+            // With nothing else to spare, and with room to spare.
+            let rooms = [ROOM_A, [6, 27, 10]].map(|mut room| {
                 room[kind] = length;
-                let expected = if length < needed { (11, 0) } else { (0, 0) };
-                assert_eq!(refused(planner, &JOB_A, room), expected, "{room:?}");
-                // Nothing else to spare.
-                let mut room = ROOM_A;
-                room[kind] = length;
-                assert_eq!(refused(planner, &JOB_A, room), expected, "{room:?}");
-            }
+                room
+            });
+            let answers = rooms.map(|room| refused(planner, &JOB_A, room));
+            assert_eq!(answers, [expected; 2], "{rooms:?}");
         }
     });
 }

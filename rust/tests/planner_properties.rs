@@ -336,7 +336,7 @@ fn barred_edges_are_as_if_they_were_not_there() {
 }
 
 /// A call is refused for short memory and leaves all of it untouched.
-fn is_short(planner: &dyn Planner, job: &Job) {
+fn must_be_short(planner: &dyn Planner, job: &Job) {
     let outcome = planners::run(planner, job, 3);
     let refused = Answer::Refused {
         number: 11,
@@ -361,7 +361,7 @@ fn work_and_wide_memory_are_exact() {
             let answer = planners::run(planner, &job, 3).answer();
             assert!(!matches!(answer, Answer::Refused { .. }), "{answer:?}");
             let work_room = job.work_room - 1;
-            is_short(
+            must_be_short(
                 planner,
                 &Job {
                     work_room,
@@ -369,7 +369,7 @@ fn work_and_wide_memory_are_exact() {
                 },
             );
             let wide_room = job.wide_room - 1;
-            is_short(planner, &Job { wide_room, ..job });
+            must_be_short(planner, &Job { wide_room, ..job });
         }
     }
 }

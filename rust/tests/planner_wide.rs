@@ -95,9 +95,8 @@ fn kept_costs(plan: &Plan, job: &Job) -> Vec<u64> {
 /// where there is no walk.
 fn costs_hold(outcome: &Outcome, least: &[Option<u64>]) {
     for (costs, least) in wide(outcome).chunks_exact(2).zip(least) {
-        for &cost in costs {
-            assert!(cost == UNREACHED || least.is_some_and(|least| least <= cost));
-        }
+        let holds = |&cost: &u64| cost == UNREACHED || least.is_some_and(|least| least <= cost);
+        assert!(costs.iter().all(holds), "{costs:?} below {least:?}");
     }
 }
 
@@ -173,36 +172,43 @@ fn every_round_takes_another_route() {
     assert_eq!(kept_costs(&plan, &job), costs);
 }
 
-/// Eight sheets of the greatest numbers, of zeros, of any numbers, of what is
-/// far first, with a table of zeros and with the steepest as the anchor.
-#[test]
-fn hostile_sheets() {
+/// Sheets of the greatest numbers, of any numbers, of zeros, and of what is
+/// far first.
+fn hostile_sheets() -> Vec<Vec<u32>> {
     let mut random = Random::new(81);
-    let any = |most: u32, random: &mut Random| -> Vec<u32> {
-        (0..VERTICES).map(|_| random.range32(0, most)).collect()
-    };
-    let far_first = (0..VERTICES).map(|vertex| vertex * 1_000_000);
-    let sheets = [
+    let mut any =
+        |most: u32| -> Vec<u32> { (0..VERTICES).map(|_| random.range32(0, most)).collect() };
+    vec![
         vec![u32::MAX; VERTICES as usize],
-        any(u32::MAX, &mut random),
+        any(u32::MAX),
         vec![0; VERTICES as usize],
-        any(16_000_000, &mut random),
-        far_first.collect(),
-        any(1, &mut random),
+        any(16_000_000),
+        (0..VERTICES).map(|vertex| vertex * 1_000_000).collect(),
+        any(1),
         vec![u32::MAX; VERTICES as usize],
-        any(1_000, &mut random),
-    ];
+        any(1_000),
+    ]
+}
+
+/// Every round of a job with hostile sheets and some anchor table.
+fn hostile_rounds(plan: &Plan, goal: u32, anchor: Vec<u32>) {
+    let mut job = job(plan, goal, &hostile_sheets());
+    job.schedule = vec![10_000, 10_000, 800, 400, 100, 100];
+    job.anchor = anchor;
+    let costs = kept_costs(plan, &job);
+    assert!(costs.windows(2).all(|pair| pair[1] <= pair[0]), "{costs:?}");
+    assert!(costs[2] > 15 << 32);
+}
+
+/// Eight hostile sheets, with a table of zeros and with the steepest as the
+/// anchor.
+#[test]
+fn sheets_may_be_hostile() {
     for (plan, goal) in [(path(), VERTICES - 1), (path_with_gates(), LONG_WAY - 1)] {
-        let mut job = job(&plan, goal, &sheets);
-        job.schedule = vec![10_000, 10_000, 800, 400, 100, 100];
+        hostile_rounds(&plan, goal, vec![0; VERTICES as usize]);
         let mut wish = vec![u32::MAX; VERTICES as usize];
         wish[goal as usize] = 0;
-        for anchor in [job.anchor.clone(), dijkstra::consistent_table(&plan, &wish)] {
-            job.anchor = anchor;
-            let costs = kept_costs(&plan, &job);
-            assert!(costs.windows(2).all(|pair| pair[1] <= pair[0]), "{costs:?}");
-            assert!(costs[2] > 15 << 32);
-        }
+        hostile_rounds(&plan, goal, dijkstra::consistent_table(&plan, &wish));
     }
 }
 
@@ -228,28 +234,37 @@ fn costs_of_other_endings() {
     assert_eq!(wide(&outcome)[8_190..], [4_094 * COST; 2]);
 }
 
-/// Work and wide memory of the least lengths, of one less, and of more, which
-/// keeps what is behind.
-#[test]
-fn lengths_of_work_and_wide_memory() {
-    let plan = path();
-    let mut job = job(&plan, 4_095, &[]);
+/// A job along the path with so many words of work memory and numbers of wide
+/// memory more or less than it needs, and what a planner leaves.
+fn with_room(planner: &dyn Planner, [work, wide]: [isize; 2]) -> (Job, Outcome) {
+    let mut job = job(&path(), 4_095, &[]);
     job.schedule = vec![100, 100];
     assert_eq!((job.work_room, job.wide_room), (24_574, 8_192));
+    job.work_room = job.work_room.saturating_add_signed(work);
+    job.wide_room = job.wide_room.saturating_add_signed(wide);
+    let outcome = planners::run(planner, &job, 4);
+    (job, outcome)
+}
+
+/// Either slice one short is refused, and all memory is left as it was.
+#[test]
+fn either_slice_one_short() {
+    for (planner, more) in BOTH.into_iter().flat_map(|planner| {
+        [[-1, 0], [0, -1], [-1, -1], [7, -1], [-1, 7]].map(|more| (planner, more))
+    }) {
+        let (job, outcome) = with_room(planner, more);
+        assert_eq!(outcome.figures, [3, 11, 0, 0, 0, 0, 0, 0], "{more:?}");
+        assert!(Lent::before(&job, 4).is_untouched(&outcome), "{more:?}");
+    }
+}
+
+/// Exact lengths pass, and longer slices keep what is behind.
+#[test]
+fn either_slice_exact_and_longer() {
     for planner in BOTH {
-        let exact = planners::run(planner, &job, 4);
+        let (job, exact) = with_room(planner, [0, 0]);
         assert!(matches!(exact.answer(), Answer::Route { .. }));
-        for short in [0, 1] {
-            let mut job = job.clone();
-            *[&mut job.work_room, &mut job.wide_room][short] -= 1;
-            let outcome = planners::run(planner, &job, 4);
-            assert_eq!(outcome.figures, [3, 11, 0, 0, 0, 0, 0, 0]);
-            assert!(Lent::before(&job, 4).is_untouched(&outcome));
-        }
-        let mut longer = job.clone();
-        longer.work_room += 5;
-        longer.wide_room += 3;
-        let outcome = planners::run(planner, &longer, 4);
+        let (longer, outcome) = with_room(planner, [5, 3]);
         let before = Lent::before(&longer, 4);
         assert_eq!(outcome.figures, exact.figures);
         let (work, wide) = (GUARD + job.work_room, GUARD + job.wide_room);
