@@ -119,7 +119,7 @@ extern "C" {
  * a planner call; bytes that are always enough for the text of a bench job. */
 #define SECONDCOOP_FIGURES 4
 #define SECONDCOOP_PLAN_FIGURES 8
-#define SECONDCOOP_PLAN_BYTES(lanes) (6 + 11 * (size_t)(lanes))
+#define SECONDCOOP_PLAN_BYTES(lanes) (5 + 9 * (size_t)(lanes))
 #define SECONDCOOP_MAX_PLAN_BYTES SECONDCOOP_PLAN_BYTES(SECONDCOOP_MAX_LANES)
 #define SECONDCOOP_ROUTE_WORDS(places) ((size_t)(places))
 #define SECONDCOOP_WORK_WORDS(places, lanes) \
@@ -141,7 +141,7 @@ extern "C" {
  * secondcoop_plan, of secondcoop_bench_text. Measured, with room to spare. */
 #define SECONDCOOP_STACK 1024
 #define SECONDCOOP_PLAN_STACK 16384
-#define SECONDCOOP_TEXT_STACK 90112
+#define SECONDCOOP_TEXT_STACK 94208
 
 /* No predecessor; and what follows a route. */
 #define SECONDCOOP_NONE UINT32_C(4294967295)

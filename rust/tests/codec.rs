@@ -207,7 +207,7 @@ fn round_trips() {
             &mut bytes,
         );
         assert_eq!(answer, [0, 0, length as u64, 0]);
-        assert!(length <= 6 + 11 * edges);
+        assert!(length <= 5 + 9 * edges);
         bytes.truncate(length);
         assert_eq!(bytes, plan.bytes());
         let mut lists = [(); 4].map(|()| vec![9; edges]);

@@ -174,9 +174,9 @@ static void text(void)
 }
 
 /* Sizes, also within other expressions. */
-_Static_assert(SECONDCOOP_PLAN_BYTES(0) == 6 && SECONDCOOP_PLAN_BYTES(1) == 17, "plan bytes");
-_Static_assert(2 * SECONDCOOP_PLAN_BYTES(2 + 2) == 100, "plan bytes");
-_Static_assert(SECONDCOOP_MAX_PLAN_BYTES == 360454, "plan bytes");
+_Static_assert(SECONDCOOP_PLAN_BYTES(0) == 5 && SECONDCOOP_PLAN_BYTES(1) == 14, "plan bytes");
+_Static_assert(2 * SECONDCOOP_PLAN_BYTES(2 + 2) == 82, "plan bytes");
+_Static_assert(SECONDCOOP_MAX_PLAN_BYTES == 294917, "plan bytes");
 _Static_assert(2 * SECONDCOOP_ROUTE_WORDS(2 + 2) == 8, "route words");
 _Static_assert(2 * SECONDCOOP_WORK_WORDS(2 + 2, 2 + 3) == 56, "work words");
 _Static_assert(SECONDCOOP_WORK_WORDS(1, 0) == 4, "work words");

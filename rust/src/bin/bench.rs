@@ -125,7 +125,7 @@ fn compare_reading(plan: &Plan, bytes: &[u8]) {
 
 /// Times reading and writing one plan.
 fn compare_plan(plan: &Plan) {
-    let mut bytes = vec![0; 11 * EDGES + 6];
+    let mut bytes = vec![0; 5 + 9 * EDGES];
     let written = plan.write(&Reference, &mut bytes);
     assert_eq!(written[..2], [0, 0]);
     bytes.truncate(written[2] as usize);

@@ -33,7 +33,7 @@ fn refused(number: u64, position: u64, place: &str) -> Done {
 
 fn to_bytes(plan: &PlanLines) -> Done {
     let [tails, heads, costs, classes] = plan.lists();
-    let mut out = vec![0; 6 + 11 * tails.len()];
+    let mut out = vec![0; 5 + 9 * tails.len()];
     let places = plan.places.says;
     let [number, position, count, _] =
         ffi::write_plan(places, &tails, &heads, &costs, &classes, &mut out);
