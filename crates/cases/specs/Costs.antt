@@ -5,7 +5,7 @@ use mathlib.Core.List.{List, [], _∷_, _++_}
 use lib.ListN.{replicate}
 use Rattle.graph.specs.declared.PlanWritten.the-variants.{Count}
 use Rattle.graph.specs.Plan.{accepted, decode}
-use Rattle.graph.specs.Lists.{Fault, none, fault, outAfter}
+use Rattle.graph.specs.Lists.{none, fault, outAfter}
 use Rattle.search.specs.Call.{Call, faultOf}
 use Rattle.job.specs.JobA.{planA}
 use Rattle.cases.specs.Cases.{HandsOver, routed, PlanRefused, old, unset, never, callIn, anchorA}

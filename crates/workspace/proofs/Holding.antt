@@ -12,7 +12,7 @@ use Rattle.graph.specs.Lists.{headOf, costOf, classOf, over}
 use Rattle.graph.specs.OneForm.{EdgeWithin}
 use Rattle.graph.proofs.Plan.{whole}
 use Rattle.search.specs.declared.Vertex.{Vertex}
-use Rattle.search.specs.Outcome.{edgesBelow, firstEdges, vertexWords, workWords, wideWords}
+use Rattle.search.specs.Outcome.{edgesBelow, firstEdges, vertexWords, workWords}
 use Rattle.workspace.specs.declared.Size.{Size}
 use Rattle.workspace.specs.Layout.{base, Words, mem, WorkRoom, Room, verticesOf, written, firstOf, edgeAt, edgesRun, edgesAt, edgesUnder, graphOf, graphWords, Loaded, Ready, Becomes}
 use Rattle.workspace.specs.Holds.{Rising, then, Holds}

@@ -17,7 +17,7 @@ use Rattle.workspace.specs.Layout.{hasMark, vertexAt, verticesIn, withTw
 
 module _ (f g : Vertex → ℕ) where
   -- the first vertex, and the others over what follows it
-  pub over-cons : (p : Vertex) (ps : List Vertex) (w : List ℕ) → over (twoEach f g (p ∷ ps)) w ≡ f p ∷ g p ∷ over (twoEach f g ps) (drop 2 w)
+  over-cons : (p : Vertex) (ps : List Vertex) (w : List ℕ) → over (twoEach f g (p ∷ ps)) w ≡ f p ∷ g p ∷ over (twoEach f g ps) (drop 2 w)
   unfolding over twoEach
   over-cons p ps w =
       let n : ℕ = length (twoEach f g ps) in

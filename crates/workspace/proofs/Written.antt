@@ -10,7 +10,7 @@ use lib.Seq.{getD-drop, getD-take, take-at, drop-at, length-take-le}
 use Rattle.graph.specs.Lists.{over}
 use Rattle.search.specs.declared.Vertex.{Vertex}
 use Rattle.search.specs.Job.{at, fresh}
-use Rattle.search.specs.Outcome.{markWord, vertexWords, wideWords}
+use Rattle.search.specs.Outcome.{markWord, vertexWords}
 use Rattle.search.proofs.Tools.{le-cases}
 use Rattle.workspace.specs.declared.Size.{Size}
 use Rattle.workspace.specs.Layout.{base, Words, mem, Room, vertexAt, verticesOf, written, withTwo, withVertex, predOf, firstOf, edgeAt, edgesRun, edgesAt, edgesUnder, graphOf, Loaded, Ready, Becomes}
