@@ -61,9 +61,13 @@ int main(void)
         SECONDCOOP_ROUTE, 0, 0, 6, LENGTH, ROUNDS, 4, 10000};
     static const uint32_t places[LENGTH] = {0, 1, 2, 3};
     static const uint32_t turns[] = {65536, 65538, 1, 65538};
+    /* Cost and cost when last expanded of each place: the goal never was. */
+    static const uint64_t costs[2 * PLACES] = {0, 0, 1, 1, 3, 3, 6, SECONDCOOP_UNREACHED};
     if (memcmp(figures, answer, sizeof answer) != 0)
         return 1;
     if (memcmp(route, places, sizeof places) != 0)
+        return 1;
+    if (memcmp(wide, costs, sizeof costs) != 0)
         return 1;
     return memcmp(log, turns, sizeof turns) != 0;
 }

@@ -84,7 +84,8 @@ extern "C" {
  * be written anew.
  *
  * Version 3: costs go to 16000000 and plan numbers have up to four groups;
- * refusals 1 and 5 move to these limits. The costs of places are 64-bit
+ * refusals 1 and 5 move to these limits, and a number of four groups meets 2,
+ * 3, 4 or 15 where it met 1. The costs of places are 64-bit
  * numbers in wide memory, which a planner call is lent after work memory;
  * work memory has 2V words less, and refusal 11 covers both. For not reached
  * and never expanded SECONDCOOP_UNREACHED stands there, and a kept cost may
@@ -304,7 +305,8 @@ enum {
  *   expanded it, and it waits for the next round.
  * - wide, at least 2V numbers of 64 bits (SECONDCOOP_WIDE_NUMBERS): two for
  *   each place, its cost g, and its cost when last expanded, as the search
- *   left them; SECONDCOOP_UNREACHED for a place not reached or never expanded.
+ *   left them. SECONDCOOP_UNREACHED: both, the place was not reached; the
+ *   second alone, it was reached and never expanded.
  */
 void secondcoop_plan(const uint8_t *bytes, size_t bytes_length,
                      uint32_t start, uint32_t goal, uint32_t barred,

@@ -81,6 +81,8 @@ computed = (
     short-route = refl;
     short-work = refl;
     short-wide = refl;
+    schedule-before-short = refl;
+    short-before-anchor = refl;
     dear-route = record { says = refl; leaves = refl };
   },
 )

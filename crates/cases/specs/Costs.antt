@@ -29,6 +29,23 @@ abbrev pub lentA : ℕ → ℕ → ℕ → Call
 lentA route work wide =
     callIn (record { route = replicate route old; log = []; work = replicate work old; wide = replicate wide old }) planA 0 anchorA 100
 
+-- job A with one number of the wide memory less than it needs, this anchor table and this schedule
+abbrev pub shortA : List ℕ → List ℕ → Call
+shortA anchor schedule =
+    let c : Call = lentA 4 25 7 in
+    record {
+      bytes = c .bytes;
+      start = c .start;
+      goal = c .goal;
+      barred = c .barred;
+      anchor = anchor;
+      sheets = c .sheets;
+      count = c .count;
+      schedule = schedule;
+      budget = c .budget;
+      memory = c .memory;
+    }
+
 -- lanes 0→1 and 1→2 at 16,000,000; from 0 to 2, zero anchor table, no guides, one round with both factors 1
 abbrev pub dear : Call
 dear =
@@ -68,6 +85,9 @@ pub record Costs : Type 0 where
   pub short-route : faultOf (lentA 3 25 8) ≡ fault 11 0
   pub short-work : faultOf (lentA 4 24 8) ≡ fault 11 0
   pub short-wide : faultOf (lentA 4 25 7) ≡ fault 11 0
+  -- 11 comes after 10, for an odd schedule, and before 12, for an anchor table that is not 0 at the goal
+  pub schedule-before-short : faultOf (shortA anchorA (200 ∷ [])) ≡ fault 10 0
+  pub short-before-anchor : faultOf (shortA (6 ∷ 5 ∷ 3 ∷ 1 ∷ []) (100 ∷ 100 ∷ [])) ≡ fault 11 0
   -- two of the dearest lanes: g and cost when last expanded in the wide memory, predecessor and marks behind the classes
   pub dear-route :
       HandsOver dear (routed 32000000 3 1 2 10000)

@@ -1,4 +1,4 @@
-// The search at first: the graph and the vertices at first in work memory, and what step 1 says of them.
+// The search at first: the graph and the vertices at first in the work memories, and what step 1 says of them.
 ghost use mathlib.Core.List.{[]};
 ghost use Rattle.planner.specs.Plan.{memoryOf};
 ghost use Rattle.planner.specs.Begun.{Beginning, Begins};

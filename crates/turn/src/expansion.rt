@@ -1,4 +1,4 @@
-// Expanding a vertex over work memory.
+// Expanding a vertex over the work memories.
 ghost use Prim.Native.Nat.{_<_};
 ghost use mathlib.Core.List.{[], _∷_};
 ghost use Rattle.search.specs.Permitted.{permitted};

@@ -1,4 +1,4 @@
-// Step 1 over work memory; and one turn: step 3, and the turn with its log word.
+// Step 1 over the work memories; and one turn: step 3, and the turn with its log word.
 mod expansion;
 mod rules;
 mod scan;

@@ -1,4 +1,4 @@
-// The least key of a heuristic over the vertices of work memory.
+// The least key of a heuristic over the vertices of the work memories.
 ghost use mathlib.Core.Path.{_≡_};
 ghost use mathlib.Core.Bool.{true};
 ghost use Prim.Native.Nat.{_<_, _≤_};

@@ -1,4 +1,4 @@
-// Work memory: where the graph and the vertices lie in lent words; edges read, vertices read and written there.
+// Both work memories: where the graph and the vertices lie in them; edges read, vertices read and written there.
 pub mod edge_words;
 pub mod round_start;
 pub mod vertex_words;

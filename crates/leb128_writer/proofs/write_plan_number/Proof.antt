@@ -11,7 +11,7 @@ use Rattle.leb128_writer.proofs.write_plan_number.Tie as tie
 
 returns : tie.Need-returns
 unfolding planGroups
-returns c = too-large 4 _ _ _ (c .if1 .taken)
+returns c = too-large 4 _ _ _ (omega (arith, c .if1 .taken))
 
 returns-2 : tie.Need-returns-2
 unfolding planGroups

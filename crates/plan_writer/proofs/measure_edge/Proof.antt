@@ -20,7 +20,7 @@ returns-3 : tie.Need-returns-3
 returns-3 c = order-refused _ _ _ _ (c .before .before .before .before .if1 .left) (c .before .before .if2 .left) (sym (c .before .falls-behind .ensures) ∙ c .if3 .taken)
 
 returns-4 : tie.Need-returns-4
-returns-4 c = cost-refused _ _ _ _ (c .before .before .before .before .before .before .if1 .left) (c .before .before .before .before .if2 .left) (sym (c .before .before .before .falls-behind .ensures) ∙ c .before .before .if3 .left) (c .if4 .taken)
+returns-4 c = cost-refused _ _ _ _ (c .before .before .before .before .before .before .if1 .left) (c .before .before .before .before .if2 .left) (sym (c .before .before .before .falls-behind .ensures) ∙ c .before .before .if3 .left) (omega (arith, c .if4 .taken))
 
 returns-5 : tie.Need-returns-5
 returns-5 c =
