@@ -6,6 +6,9 @@ ghost use Rattle.search.specs.Turn.{key, offered, marked, lowered};
 ghost use Rattle.search.specs.Bounds.{maxFactor, maxG, maxKey};
 use search::Vertex;
 
+// On a guide sheet: the guide has no opinion on the vertex.
+const NO_OPINION: u32 = 4294967295;
+
 // The key of a vertex, where h is the heuristic's number for it.
 pub fn key(x: Vertex, w1: u32, h: u32) -> u64
     requires { ⌜ (w1 ≤ maxFactor) × (x .g ≤ maxG) ⌝ }
@@ -15,14 +18,16 @@ pub fn key(x: Vertex, w1: u32, h: u32) -> u64
     100 * g + (w1 as u64) * (h as u64)
 }
 
-// Whether heuristic i, whose number for the vertex is h, may expand it (h is not used here: a rule of a later
-// release reads it).
+// Whether heuristic i, whose number for the vertex is h, may expand it.
 pub fn offered(x: Vertex, i: u32, h: u32) -> bool
     ensures { λ r. ⌜ r ≡ offered i h x ⌝ }
 {
     if x.opened {
         if i == 0 {
             return true;
+        }
+        if h == NO_OPINION {
+            return false;
         }
         return !x.inad;
     }
