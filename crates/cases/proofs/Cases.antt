@@ -1,4 +1,4 @@
--- The table of document 01's (p) cases, the jobs that tell its rules from others, and the cases of barred classes and of costs.
+-- The table of document 01's (p) cases, the jobs that tell its rules from others, and the cases of barred classes, of costs and of no opinion.
 use mathlib.Core.Path.{refl}
 use Rattle.leb128.specs.Number.{planGroups, more, answered, read, encode}
 use Rattle.leb128.specs.Number
@@ -7,7 +7,7 @@ use Rattle.graph.specs.Plan.{leastAfter, past, nextEdge, before, onward, edgesF
 use Rattle.graph.specs.Lists.{over, roomFor, readAs, edgesIn, readAnswer, listAfter, edgesOf, listRows, edgeRows, edgesFault, writeFault, edgeBytes, edgesBytes, bytesOf, outAfter}
 use Rattle.search.specs.Walk.{edgeCost, onEdge, costFrom, routeCost}
 use Rattle.search.specs.Permitted.{barredBy, permitted}
-use Rattle.search.specs.Job.{cyclic, guides, heuristic, factors, house, unreached, noPred, routeEnd, fresh, origin, atFirst, at}
+use Rattle.search.specs.Job.{cyclic, guides, heuristic, factors, house, unreached, noPred, routeEnd, noOpinion, fresh, origin, atFirst, at}
 use Rattle.search.specs.Turn.{key, offered, better, leastFrom, least, stepOne, candidate, choose, marked, lowered, relax, relaxAll, expand}
 use Rattle.search.specs.Rounds.{firstTurn, nextTurn, turned, ended, inHand, step, choice, turn, trace, traced, improves, costOr, reopened, endRound, onFinished, settle, settled, begin, onDue, advance, run, moments, search}
 use Rattle.search.specs.Call.{inForce, scheduleOf, outOfRange, rising, pairs, row, first, endsRow, tablesRow, scheduleRow, memoryRow, goalRow, edgesRow, faultIn, faultOf, planEdges, tables, jobIn, jobFrom, jobOf}
@@ -17,14 +17,15 @@ use Rattle.cases.specs.Cases.{Cases}
 use Rattle.cases.specs.Apart.{Apart}
 use Rattle.cases.specs.Barred.{Barred}
 use Rattle.cases.specs.Costs.{Costs}
+use Rattle.cases.specs.Opinion.{Opinion}
 use Rattle.cases.proofs.Schedules.{house-schedule}
 use Rattle.cases.proofs.Ends.{plan-refused}
 use Rattle.search.specs.Guarantee.{withPick}
 use Rattle.cases.proofs.TwoVertices.{two-vertices}
 use Rattle.cases.proofs.StartIsGoal.{start-is-goal}
 
-computed : Cases × Apart × Barred × Costs
-unfolding Number.decode more answered read planGroups encode vertexCountRows edgeCountRows tailRows headRows costRows classRows through throughAll takeNumber taking leastAfter past nextEdge before onward edgesFrom header afterHeader decode sizes over roomFor readAs edgesIn readAnswer listAfter edgesOf listRows edgeRows edgesFault writeFault edgeBytes edgesBytes bytesOf outAfter edgeCost onEdge costFrom routeCost barredBy permitted cyclic guides heuristic factors house unreached noPred routeEnd fresh origin atFirst at key offered better leastFrom least stepOne candidate choose marked lowered relax relaxAll expand firstTurn nextTurn turned ended inHand step choice turn trace traced improves costOr reopened endRound onFinished settle settled begin onDue advance run moments search inForce scheduleOf outOfRange rising pairs row first endsRow tablesRow scheduleRow memoryRow goalRow edgesRow faultIn faultOf planEdges tables jobIn jobFrom jobOf bound summary cutShort answerAt answerOf figures routeWords routeAfter logWord logAfter edgesBelow firstEdges markWord twoEach workWords outcome answerIn answer memoryIn memoryAfter withPick
+computed : Cases × Apart × Barred × Costs × Opinion
+unfolding Number.decode more answered read planGroups encode vertexCountRows edgeCountRows tailRows headRows costRows classRows through throughAll takeNumber taking leastAfter past nextEdge before onward edgesFrom header afterHeader decode sizes over roomFor readAs edgesIn readAnswer listAfter edgesOf listRows edgeRows edgesFault writeFault edgeBytes edgesBytes bytesOf outAfter edgeCost onEdge costFrom routeCost barredBy permitted cyclic guides heuristic factors house unreached noPred routeEnd noOpinion fresh origin atFirst at key offered better leastFrom least stepOne candidate choose marked lowered relax relaxAll expand firstTurn nextTurn turned ended inHand step choice turn trace traced improves costOr reopened endRound onFinished settle settled begin onDue advance run moments search inForce scheduleOf outOfRange rising pairs row first endsRow tablesRow scheduleRow memoryRow goalRow edgesRow faultIn faultOf planEdges tables jobIn jobFrom jobOf bound summary cutShort answerAt answerOf figures routeWords routeAfter logWord logAfter edgesBelow firstEdges markWord twoEach workWords outcome answerIn answer memoryIn memoryAfter withPick
 computed = (
   record {
     job-A = record { says = refl; leaves = refl };
@@ -85,6 +86,19 @@ computed = (
     short-before-anchor = refl;
     dear-route = record { says = refl; leaves = refl };
   },
+  record {
+    silent = record { says = refl; leaves = refl };
+    no-guides = record { says = refl; leaves = refl };
+    one = record { says = refl; leaves = refl };
+    would-have = refl;
+    on-start = refl;
+    on-goal = refl;
+    two-guides = refl;
+    least-without = refl;
+    neither = refl;
+    one-less = refl;
+    anchor-number = record { says = refl; leaves = refl };
+  },
 )
 
 pub all-cases : Cases
@@ -98,3 +112,6 @@ barred = computed .2
 
 pub costs : Costs
 costs = computed .3
+
+pub opinion : Opinion
+opinion = computed .4

@@ -13,7 +13,7 @@ use Rattle.graph.specs.Lists.{none, edgesIn}
 use Rattle.search.specs.declared.Factors.{Factors}
 use Rattle.search.specs.declared.Step.the-variants.{Stuck, Due}
 use Rattle.search.specs.Permitted.{permitted}
-use Rattle.search.specs.Job.{State, Job, cyclic, guides, heuristic, factors, house, unreached, noPred, fresh, origin, atFirst, at}
+use Rattle.search.specs.Job.{State, Job, cyclic, guides, heuristic, factors, house, unreached, noOpinion, noPred, fresh, origin, atFirst, at}
 use Rattle.search.specs.Turn.{key, offered, better, leastFrom, least, stepOne, candidate, choose, marked, relaxAll, expand}
 use Rattle.search.specs.Rounds.{Stand, Moment, firstTurn, nextTurn, turned, inHand, step, choice, turn, onFinished, begin, onDue, advance, run, moments, search}
 use Rattle.search.specs.Call.{Memory, Call, inForce, scheduleOf, pairs, faultOf, planEdges, tables, jobIn, jobFrom, jobOf}
@@ -80,11 +80,11 @@ module _ (f : Factors) (fs : List Factors) where
   one-left = omega arith
 
   begins : begin job ≡ first
-  unfolding begin atFirst guides firstTurn onFinished step stepOne inHand factors heuristic least leastFrom better offered key origin fresh unreached at
+  unfolding begin atFirst guides firstTurn onFinished step stepOne inHand factors heuristic least leastFrom better offered noOpinion key origin fresh unreached at
   begins = settled-at job before (length fs) one-left
 
   turns : advance job first ≡ last
-  unfolding advance onDue turn choice cyclic choose candidate expand relaxAll marked turned nextTurn firstTurn guides onFinished step stepOne inHand factors heuristic least leastFrom better offered key origin fresh unreached at
+  unfolding advance onDue turn choice cyclic choose candidate expand relaxAll marked turned nextTurn firstTurn guides onFinished step stepOne inHand factors heuristic least leastFrom better offered noOpinion key origin fresh unreached at
   turns = settled-at job after (length fs) one-left
 
   ended : (m a : ℕ) → last .step ≡ Due m a → ⊥

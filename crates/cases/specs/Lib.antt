@@ -4,3 +4,4 @@ pub mod Instance
 pub mod Apart
 pub mod Barred
 pub mod Costs
+pub mod Opinion

@@ -1,0 +1,121 @@
+-- Cases of guides without an opinion (document 02, E6). Proved in proofs/Cases.antt.
+use Prim.Native.Nat.{ℕ}
+use mathlib.Core.Path.{_≡_}
+use mathlib.Core.List.{List, [], _∷_, _++_, map}
+use lib.ListN.{replicate}
+use Rattle.search.specs.Call.{Memory, Call}
+use Rattle.search.specs.Outcome.{logWord, outcome}
+use Rattle.job.specs.JobA.{planA}
+use Rattle.cases.specs.Cases.{HandsOver, routed, noRouteAfter, old, unset, never, jobA, workA, wideA}
+
+-- on a guide sheet: no opinion
+abbrev pub unsaid : ℕ
+unsaid = 4294967295
+
+-- job A with so many guides, whose sheets these are
+abbrev pub guidedA : ℕ → List ℕ → Call
+guidedA count sheets =
+    let c : Call = jobA 100 in
+    record {
+      bytes = c .bytes;
+      start = c .start;
+      goal = c .goal;
+      barred = c .barred;
+      anchor = c .anchor;
+      sheets = sheets;
+      count = count;
+      schedule = c .schedule;
+      budget = c .budget;
+      memory = c .memory;
+    }
+
+-- where its guide has no opinion on any vertex
+abbrev pub silentA : Call
+silentA = guidedA 1 (replicate 4 unsaid)
+
+-- memory after job A, if the anchor alone expands
+abbrev pub anchorAlone : Memory
+anchorAlone =
+    record {
+      route = 0 ∷ 1 ∷ 2 ∷ 3 ∷ old ∷ [];
+      log = 0 ∷ 2 ∷ 1 ∷ 2 ∷ old ∷ [];
+      work = workA (unset ∷ 0 ∷ []) (0 ∷ 2 ∷ []) (1 ∷ 2 ∷ []) (2 ∷ 4 ∷ []);
+      wide = wideA (0 ∷ 0 ∷ []) (1 ∷ 1 ∷ []) (3 ∷ 3 ∷ []) (6 ∷ never ∷ []);
+    }
+
+-- lanes 0→1 at 16,000,000, 0→2 at 15,999,900, 1→3, 2→3 and 3→4 at 16,000,000; from 0 to 4, the true costs as anchor table, one round with
+-- w1 = 1 and w2 = 100; a guide with these numbers for vertices 1 and 2. So dear that every key of vertices 1 and 2 is within W2·m
+abbrev pub dear : ℕ → ℕ → Call
+dear h1 h2 =
+    record {
+      bytes =
+          (0x05 ∷ 0x05 ∷ [])
+          ++ (0x00 ∷ 0x01 ∷ 0x80 ∷ 0xC8 ∷ 0xD0 ∷ 0x07 ∷ 0x00 ∷ [])
+          ++ (0x00 ∷ 0x02 ∷ 0x9C ∷ 0xC7 ∷ 0xD0 ∷ 0x07 ∷ 0x00 ∷ [])
+          ++ (0x01 ∷ 0x03 ∷ 0x80 ∷ 0xC8 ∷ 0xD0 ∷ 0x07 ∷ 0x00 ∷ [])
+          ++ (0x01 ∷ 0x03 ∷ 0x80 ∷ 0xC8 ∷ 0xD0 ∷ 0x07 ∷ 0x00 ∷ [])
+          ++ (0x01 ∷ 0x04 ∷ 0x80 ∷ 0xC8 ∷ 0xD0 ∷ 0x07 ∷ 0x00 ∷ []);
+      start = 0;
+      goal = 4;
+      barred = 0;
+      anchor = 47999900 ∷ 32000000 ∷ 32000000 ∷ 16000000 ∷ 0 ∷ [];
+      sheets = 0 ∷ h1 ∷ h2 ∷ 0 ∷ 0 ∷ [];
+      count = 1;
+      schedule = 100 ∷ 10000 ∷ [];
+      budget = 100;
+      memory = record { route = replicate 5 old; log = replicate 3 old; work = replicate 31 old; wide = replicate 10 old };
+    }
+
+-- plan A from 1 to 0, to which no lane leads, no guides; the anchor table has 4,294,967,295 but at the goal
+abbrev pub awayA : Call
+awayA =
+    record {
+      bytes = planA;
+      start = 1;
+      goal = 0;
+      barred = 0;
+      anchor = 0 ∷ 4294967295 ∷ 4294967295 ∷ 4294967295 ∷ [];
+      sheets = [];
+      count = 0;
+      schedule = [];
+      budget = 100;
+      memory = jobA 100 .memory;
+    }
+
+-- the log words of a call's turns, one for each, however long the log is
+abbrev pub logOf : Call → List ℕ
+logOf c = map logWord (outcome c .history)
+
+pub record Opinion : Type 0 where
+  -- job A without any opinion: table 0 alone in the log; route and bound, and all the rest, as without guides
+  pub silent : HandsOver silentA (routed 6 4 2 4 10000) anchorAlone
+  pub no-guides : HandsOver (guidedA 0 []) (routed 6 4 2 4 10000) anchorAlone
+  -- no opinion on vertex 2, which the guide would have taken in turn 2: it takes vertex 1; in turn 3 vertex 2 alone is open, and the anchor has it
+  pub one :
+      HandsOver (guidedA 1 (0 ∷ 3 ∷ unsaid ∷ 0 ∷ [])) (routed 6 4 2 3 10000)
+      (record {
+        route = 0 ∷ 1 ∷ 2 ∷ 3 ∷ old ∷ [];
+        log = 65536 ∷ 65537 ∷ 2 ∷ old ∷ old ∷ [];
+        work = workA (unset ∷ 0 ∷ []) (0 ∷ 0 ∷ []) (1 ∷ 0 ∷ []) (2 ∷ 4 ∷ []);
+        wide = wideA (0 ∷ 0 ∷ []) (1 ∷ 1 ∷ []) (3 ∷ 3 ∷ []) (6 ∷ never ∷ []);
+      })
+  pub would-have : logOf (guidedA 1 (0 ∷ 3 ∷ 0 ∷ 0 ∷ [])) ≡ 65536 ∷ 65538 ∷ 65537 ∷ 65538 ∷ []
+  -- no opinion on the start: the anchor has turn 1; on the goal: job A's turns
+  pub on-start : logOf (guidedA 1 (unsaid ∷ 9 ∷ 0 ∷ 0 ∷ [])) ≡ 0 ∷ 65538 ∷ 1 ∷ 65538 ∷ []
+  pub on-goal : logOf (guidedA 1 (0 ∷ 9 ∷ 0 ∷ unsaid ∷ [])) ≡ 65536 ∷ 65538 ∷ 1 ∷ 65538 ∷ []
+  -- guide 1 has no opinion at all: the anchor has its turns, not guide 2, whose own are as they were
+  pub two-guides : logOf (guidedA 2 (replicate 4 unsaid ++ (0 ∷ 9 ∷ 0 ∷ 0 ∷ []))) ≡ 0 ∷ 131074 ∷ 1 ∷ 131074 ∷ []
+  -- the least key is taken without vertex 2, whose number would have made it the least: the guide takes vertex 1, the anchor would take 2
+  pub least-without : logOf (dear 4294967294 unsaid) ≡ 65536 ∷ 65537 ∷ 65539 ∷ []
+  -- no opinion on either: the anchor has turn 2. 4,294,967,294 is a number like others
+  pub neither : logOf (dear unsaid unsaid) ≡ 65536 ∷ 2 ∷ 65539 ∷ []
+  pub one-less : logOf (dear 4294967294 4294967294) ≡ 65536 ∷ 65538 ∷ 65539 ∷ []
+  -- in the anchor table 4,294,967,295 is a number like others too: vertices 1, 2 and 3 are expanded before there is no route
+  pub anchor-number :
+      HandsOver awayA (noRouteAfter 3)
+      (record {
+        route = replicate 5 old;
+        log = 1 ∷ 2 ∷ 3 ∷ old ∷ old ∷ [];
+        work = workA (unset ∷ 0 ∷ []) (unset ∷ 2 ∷ []) (1 ∷ 2 ∷ []) (2 ∷ 2 ∷ []);
+        wide = wideA (never ∷ never ∷ []) (0 ∷ 0 ∷ []) (2 ∷ 2 ∷ []) (5 ∷ 5 ∷ []);
+      })
