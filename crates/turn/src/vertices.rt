@@ -26,10 +26,10 @@ pub fn offered(x: Vertex, i: u32, h: u32) -> bool
         if i == 0 {
             return true;
         }
-        if h == NO_OPINION {
+        if x.inad {
             return false;
         }
-        return !x.inad;
+        return h != NO_OPINION;
     }
     false
 }

@@ -10,12 +10,12 @@ unfolding offered
 returns c = simp (c .before .if1 .taken, eq-eqb _ _ (c .if2 .taken))
 
 returns-2 : tie.Need-returns-2
-unfolding offered noOpinion
-returns-2 c = simp (c .before .before .if1 .taken, ne-eqb _ _ (c .before .if2 .left), eq-eqb _ _ (c .if3 .taken))
+unfolding offered
+returns-2 c = simp (c .before .before .if1 .taken, ne-eqb _ _ (c .before .if2 .left), c .if3 .taken)
 
 returns-3 : tie.Need-returns-3
 unfolding offered noOpinion
-returns-3 c = simp (c .before .before .before .if1 .taken, ne-eqb _ _ (c .before .before .if2 .left), ne-eqb _ _ (c .before .if3 .left))
+returns-3 c = simp (c .before .before .if1 .taken, ne-eqb _ _ (c .before .if2 .left), c .if3 .left)
 
 returns-4 : tie.Need-returns-4
 unfolding offered
