@@ -82,6 +82,22 @@ callOn plan barred anchor budget = callIn lent plan barred anchor budget
 abbrev pub callA : List ℕ → ℕ → Call
 callA anchor budget = callOn planA 0 anchor budget
 
+-- a call with this anchor table, so many guides whose sheets these are, and this schedule in place of its own
+abbrev pub withTables : List ℕ → ℕ → List ℕ → List ℕ → Call → Call
+withTables anchor count sheets schedule c =
+    record {
+      bytes = c .bytes;
+      start = c .start;
+      goal = c .goal;
+      barred = c .barred;
+      anchor = anchor;
+      sheets = sheets;
+      count = count;
+      schedule = schedule;
+      budget = c .budget;
+      memory = c .memory;
+    }
+
 abbrev pub anchorA : List ℕ
 anchorA = 6 ∷ 5 ∷ 3 ∷ 0 ∷ []
 

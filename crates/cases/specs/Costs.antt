@@ -8,7 +8,7 @@ use Rattle.graph.specs.Plan.{accepted, decode}
 use Rattle.graph.specs.Lists.{none, fault, outAfter}
 use Rattle.search.specs.Call.{Call, faultOf}
 use Rattle.job.specs.JobA.{planA}
-use Rattle.cases.specs.Cases.{HandsOver, routed, PlanRefused, old, unset, never, callIn, anchorA}
+use Rattle.cases.specs.Cases.{HandsOver, routed, PlanRefused, old, unset, never, callIn, withTables, anchorA}
 use Rattle.cases.specs.Barred.{written}
 use Rattle.cases.specs.Instance.{edge}
 
@@ -31,20 +31,7 @@ lentA route work wide =
 
 -- job A with one number of the wide memory less than it needs, this anchor table and this schedule
 abbrev pub shortA : List ℕ → List ℕ → Call
-shortA anchor schedule =
-    let c : Call = lentA 4 25 7 in
-    record {
-      bytes = c .bytes;
-      start = c .start;
-      goal = c .goal;
-      barred = c .barred;
-      anchor = anchor;
-      sheets = c .sheets;
-      count = c .count;
-      schedule = schedule;
-      budget = c .budget;
-      memory = c .memory;
-    }
+shortA anchor schedule = let c : Call = lentA 4 25 7 in withTables anchor (c .count) (c .sheets) schedule c
 
 -- lanes 0→1 and 1→2 at 16,000,000; from 0 to 2, zero anchor table, no guides, one round with both factors 1
 abbrev pub dear : Call

@@ -6,7 +6,7 @@ use lib.ListN.{replicate}
 use Rattle.search.specs.Call.{Memory, Call}
 use Rattle.search.specs.Outcome.{logWord, outcome}
 use Rattle.job.specs.JobA.{planA}
-use Rattle.cases.specs.Cases.{HandsOver, routed, noRouteAfter, old, unset, never, jobA, workA, wideA}
+use Rattle.cases.specs.Cases.{HandsOver, routed, noRouteAfter, old, unset, never, withTables, jobA, workA, wideA}
 
 -- on a guide sheet: no opinion
 abbrev pub unsaid : ℕ
@@ -14,20 +14,7 @@ unsaid = 4294967295
 
 -- job A with so many guides, whose sheets these are
 abbrev pub guidedA : ℕ → List ℕ → Call
-guidedA count sheets =
-    let c : Call = jobA 100 in
-    record {
-      bytes = c .bytes;
-      start = c .start;
-      goal = c .goal;
-      barred = c .barred;
-      anchor = c .anchor;
-      sheets = sheets;
-      count = count;
-      schedule = c .schedule;
-      budget = c .budget;
-      memory = c .memory;
-    }
+guidedA count sheets = let c : Call = jobA 100 in withTables (c .anchor) count sheets (c .schedule) c
 
 -- where its guide has no opinion on any vertex
 abbrev pub silentA : Call
@@ -45,8 +32,8 @@ anchorAlone =
 
 -- lanes 0→1 at 16,000,000, 0→2 at 15,999,900, 1→3, 2→3 and 3→4 at 16,000,000; from 0 to 4, the true costs as anchor table, one round with
 -- w1 = 1 and w2 = 100; a guide with these numbers for vertices 1 and 2. So dear that every key of vertices 1 and 2 is within W2·m
-abbrev pub dear : ℕ → ℕ → Call
-dear h1 h2 =
+abbrev pub dearFork : ℕ → ℕ → Call
+dearFork h1 h2 =
     record {
       bytes =
           (0x05 ∷ 0x05 ∷ [])
@@ -106,10 +93,10 @@ pub record Opinion : Type 0 where
   -- guide 1 has no opinion at all: the anchor has its turns, not guide 2, whose own are as they were
   pub two-guides : logOf (guidedA 2 (replicate 4 unsaid ++ (0 ∷ 9 ∷ 0 ∷ 0 ∷ []))) ≡ 0 ∷ 131074 ∷ 1 ∷ 131074 ∷ []
   -- the least key is taken without vertex 2, whose number would have made it the least: the guide takes vertex 1, the anchor would take 2
-  pub least-without : logOf (dear 4294967294 unsaid) ≡ 65536 ∷ 65537 ∷ 65539 ∷ []
+  pub least-without : logOf (dearFork 4294967294 unsaid) ≡ 65536 ∷ 65537 ∷ 65539 ∷ []
   -- no opinion on either: the anchor has turn 2. 4,294,967,294 is a number like others
-  pub neither : logOf (dear unsaid unsaid) ≡ 65536 ∷ 2 ∷ 65539 ∷ []
-  pub one-less : logOf (dear 4294967294 4294967294) ≡ 65536 ∷ 65538 ∷ 65539 ∷ []
+  pub neither : logOf (dearFork unsaid unsaid) ≡ 65536 ∷ 2 ∷ 65539 ∷ []
+  pub one-less : logOf (dearFork 4294967294 4294967294) ≡ 65536 ∷ 65538 ∷ 65539 ∷ []
   -- in the anchor table 4,294,967,295 is a number like others too: vertices 1, 2 and 3 are expanded before there is no route
   pub anchor-number :
       HandsOver awayA (noRouteAfter 3)
