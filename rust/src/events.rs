@@ -4,7 +4,7 @@
 use crate::dijkstra;
 use crate::generate::Plan;
 use crate::jobs::Job;
-use crate::planner::{Answer, Event, MOST_BARRED};
+use crate::planner::{Answer, Event, MOST_BARRED, MOST_OPINION, NO_OPINION};
 
 /// How often each event was met; see [`Events::names`].
 #[derive(Clone, Debug, Default, PartialEq, Eq)]
@@ -66,7 +66,7 @@ pub struct Events {
     pub self_edge: u64,
     /// A guide sheet has one number everywhere, on more than one vertex.
     pub constant_sheet: u64,
-    /// A guide sheet has the number 4,294,967,295.
+    /// A guide sheet has the number 4,294,967,294.
     pub greatest_number: u64,
     /// A guide sheet is not 0 at the goal.
     pub not_0_at_goal: u64,
@@ -93,6 +93,37 @@ pub struct Events {
     pub wide_g: u64,
     /// The kept cost is beyond 32 bits.
     pub wide_route: u64,
+    /// The guide with the turn had no opinion on a vertex that would have had
+    /// the least key.
+    pub no_opinion: u64,
+    /// And it would have expanded that vertex.
+    pub no_opinion_within: u64,
+    /// And it would have expanded that vertex, and expanded another one.
+    pub no_opinion_other: u64,
+    /// The guide with the turn had no vertex to take, and would have had one.
+    pub no_opinion_left: u64,
+    /// A route was kept in a search in which a guide would have expanded a
+    /// vertex that it had no opinion on.
+    pub no_opinion_route: u64,
+    /// The anchor expanded a vertex at which its table has 4,294,967,295.
+    pub greatest_by_anchor: u64,
+    /// A guide has no opinion somewhere, and one elsewhere.
+    pub some_opinions: u64,
+    /// A guide has no opinion on any vertex.
+    pub empty_sheet: u64,
+    /// There are several guides, and none has an opinion on any vertex.
+    pub empty_sheets: u64,
+    /// There are several guides, and one has all opinions and another not.
+    pub one_full_sheet: u64,
+    /// There are several guides; each has no opinion somewhere, and not all
+    /// have none at all.
+    pub all_sheets: u64,
+    /// A guide has no opinion on the start.
+    pub no_opinion_on_start: u64,
+    /// A guide has no opinion on the goal.
+    pub no_opinion_on_goal: u64,
+    /// The anchor table has the number 4,294,967,295.
+    pub greatest_in_anchor: u64,
 }
 
 /// What the events of one search have shown so far.
@@ -110,6 +141,35 @@ struct Seen {
     no_line: bool,
     too_dear: bool,
     wide: bool,
+    opinions: SeenOpinions,
+}
+
+/// What the events of one search have shown of guides without opinion.
+#[derive(Default)]
+struct SeenOpinions {
+    /// The guide with the turn would have expanded a vertex that it has no
+    /// opinion on.
+    in_hand: bool,
+    least: bool,
+    within: bool,
+    other: bool,
+    none_left: bool,
+    by_anchor: bool,
+}
+
+impl SeenOpinions {
+    fn no_opinion(&mut self, within: bool, left: bool) {
+        self.in_hand = within;
+        self.least = true;
+        self.within |= within;
+        self.none_left |= !left;
+    }
+
+    fn turn(&mut self, table: u32, anchor_number: u32) {
+        self.other |= self.in_hand && table > 0;
+        self.in_hand = false;
+        self.by_anchor |= table == 0 && anchor_number == u32::MAX;
+    }
 }
 
 /// Whether a cost takes more than 32 bits.
@@ -124,7 +184,7 @@ impl Seen {
         self.by_anchor_before.append(&mut self.by_anchor);
     }
 
-    fn turn(&mut self, event: &Event, guide_count: u32) {
+    fn turn(&mut self, event: &Event, job: &Job) {
         let &Event::Turn {
             table,
             vertex,
@@ -136,6 +196,7 @@ impl Seen {
             return;
         };
         self.turns_in_round += 1;
+        self.opinions.turn(table, job.anchor[vertex as usize]);
         self.wide |= is_wide(g);
         self.twice |= self.in_round.contains(&vertex);
         self.again |= self.by_anchor_before.contains(&vertex);
@@ -143,7 +204,7 @@ impl Seen {
         if table == 0 {
             self.by_anchor.push(vertex);
             self.no_line |= no_line;
-            self.too_dear |= !no_line && guide_count > 0;
+            self.too_dear |= !no_line && job.guide_count > 0;
         }
     }
 }
@@ -151,7 +212,7 @@ impl Seen {
 impl Events {
     /// All counts with their names.
     pub fn names(&self) -> Vec<(&'static str, u64)> {
-        [self.of_searches(), self.of_jobs()].concat()
+        [self.of_searches(), self.of_jobs(), self.of_opinions()].concat()
     }
 
     fn of_searches(&self) -> Vec<(&'static str, u64)> {
@@ -192,7 +253,7 @@ impl Events {
             ("all costs 0", self.zero_costs),
             ("self-edge", self.self_edge),
             ("constant sheet", self.constant_sheet),
-            ("greatest number in a sheet", self.greatest_number),
+            ("4,294,967,294 in a sheet", self.greatest_number),
             ("sheet not 0 at the goal", self.not_0_at_goal),
             ("no guides", self.no_guides),
             ("eight guides", self.eight_guides),
@@ -200,6 +261,25 @@ impl Events {
             ("house schedule", self.house_schedule),
             ("edges of eight classes", self.eight_classes),
             ("all classes barred", self.all_barred),
+        ]
+    }
+
+    fn of_opinions(&self) -> Vec<(&'static str, u64)> {
+        vec![
+            ("no opinion on the least key", self.no_opinion),
+            ("and it would be expanded", self.no_opinion_within),
+            ("and another is expanded", self.no_opinion_other),
+            ("no vertex left to a guide", self.no_opinion_left),
+            ("and a route is kept", self.no_opinion_route),
+            ("greatest by the anchor", self.greatest_by_anchor),
+            ("opinions on some vertices", self.some_opinions),
+            ("sheet without opinions", self.empty_sheet),
+            ("all sheets without opinions", self.empty_sheets),
+            ("one sheet of opinions alone", self.one_full_sheet),
+            ("no sheet of opinions alone", self.all_sheets),
+            ("no opinion on the start", self.no_opinion_on_start),
+            ("no opinion on the goal", self.no_opinion_on_goal),
+            ("4,294,967,295 in the anchor", self.greatest_in_anchor),
         ]
     }
 
@@ -211,7 +291,8 @@ impl Events {
         for event in &events {
             match *event {
                 Event::Begin { .. } => seen.begin(),
-                Event::Turn { .. } => seen.turn(event, job.guide_count),
+                Event::NoOpinion { within, left, .. } => seen.opinions.no_opinion(within, left),
+                Event::Turn { .. } => seen.turn(event, job),
                 Event::Finish { .. } => self.count_finish(job, event, &mut seen),
                 Event::Cut { round, turns } => {
                     self.count_cut(job, round, turns, seen.turns_in_round == 0);
@@ -228,13 +309,45 @@ impl Events {
         self.no_line += u64::from(seen.no_line);
         self.line_too_dear += u64::from(seen.too_dear);
         self.wide_g += u64::from(seen.wide);
+        self.count_opinions(&seen.opinions, answer);
         self.count_answer(job, answer);
         if !matches!(answer, Answer::Refused { .. }) {
             let plan = Plan::of_bytes(&job.bytes);
             self.count_shape(job, &plan);
+            self.count_sheets(job);
             self.count_barred(job, &plan, answer);
         }
         answer
+    }
+
+    /// Counts what a search shows of guides without opinion.
+    fn count_opinions(&mut self, seen: &SeenOpinions, answer: Answer) {
+        let route = matches!(answer, Answer::Route { .. });
+        self.no_opinion += u64::from(seen.least);
+        self.no_opinion_within += u64::from(seen.within);
+        self.no_opinion_other += u64::from(seen.other);
+        self.no_opinion_left += u64::from(seen.none_left);
+        self.no_opinion_route += u64::from(seen.within && route);
+        self.greatest_by_anchor += u64::from(seen.by_anchor);
+    }
+
+    /// Counts where a job's guides have opinions.
+    fn count_sheets(&mut self, job: &Job) {
+        let sheets: Vec<&[u32]> = job.guides.chunks_exact(job.anchor.len()).collect();
+        let lacks = |sheet: &[u32]| sheet.contains(&NO_OPINION);
+        let empty = |sheet: &[u32]| sheet.iter().all(|&h| h == NO_OPINION);
+        let lacks_on = |vertex: u32| sheets.iter().any(|s| s[vertex as usize] == NO_OPINION);
+        let lacking = sheets.iter().filter(|sheet| lacks(sheet)).count();
+        let wholly = sheets.iter().filter(|sheet| empty(sheet)).count();
+        let (count, several) = (sheets.len(), sheets.len() > 1);
+        self.some_opinions += u64::from(lacking > wholly);
+        self.empty_sheet += u64::from(wholly > 0);
+        self.empty_sheets += u64::from(several && wholly == count);
+        self.one_full_sheet += u64::from(lacking > 0 && lacking < count);
+        self.all_sheets += u64::from(several && lacking == count && wholly < count);
+        self.no_opinion_on_start += u64::from(lacks_on(job.start));
+        self.no_opinion_on_goal += u64::from(lacks_on(job.goal));
+        self.greatest_in_anchor += u64::from(job.anchor.contains(&u32::MAX));
     }
 
     /// Counts what a finished round shows.
@@ -344,7 +457,7 @@ impl Events {
         self.zero_costs += u64::from(zero_costs);
         self.self_edge += u64::from(self_edge);
         self.constant_sheet += u64::from(sheets().any(constant));
-        self.greatest_number += u64::from(job.guides.contains(&u32::MAX));
+        self.greatest_number += u64::from(job.guides.contains(&MOST_OPINION));
         self.not_0_at_goal += u64::from(sheets().any(|sheet| sheet[job.goal as usize] > 0));
         self.no_guides += u64::from(job.guide_count == 0);
         self.eight_guides += u64::from(job.guide_count == 8);

@@ -1,14 +1,15 @@
 //! Seeded jobs for the planner: tiny graphs, ladders, grids, zero costs,
-//! self-edges, barred classes, hostile and constant sheets, budgets around
-//! the ends of rounds, start = goal, no walk to the goal, long paths whose
-//! costs pass 32 bits, and jobs damaged for each refusal.
+//! self-edges, barred classes, hostile and constant sheets, guides without
+//! opinion, budgets around the ends of rounds, start = goal, no walk to the
+//! goal, long paths whose costs pass 32 bits, and jobs damaged for each
+//! refusal.
 
 use std::collections::BTreeMap;
 
 use crate::bench_text;
 use crate::dijkstra;
 use crate::generate::{self, Plan};
-use crate::planner::{self, Answer, Event, Memory, Request};
+use crate::planner::{self, Answer, Event, Memory, Request, MOST_OPINION, NO_OPINION};
 use crate::random::Random;
 use crate::reference::MOST_COST;
 
@@ -170,25 +171,24 @@ fn narrowed(distance: u64) -> u32 {
     u32::try_from(distance).unwrap_or(u32::MAX)
 }
 
-/// A guide sheet of any sort, hostile ones included.
+/// A guide sheet of any sort, hostile ones included. Of the anchor table's
+/// numbers one may mean no opinion on a sheet; otherwise a sheet is without
+/// opinion, if anywhere, where no walk leads to the goal.
 pub fn random_sheet(random: &mut Random, plan: &Plan, goal: u32, anchor: &[u32]) -> Vec<u32> {
     let vertices = plan.vertices as usize;
-    let most = random.pick(&[1, 3, 20, 1_000, u32::MAX]);
+    let most = random.pick(&[1, 3, 20, 1_000, MOST_OPINION]);
     match random.below(9) {
         0 => vec![0; vertices],
         1 => vec![most; vertices],
         2 => anchor.to_vec(),
         // Distances, and what is far comes first.
-        kind @ (3 | 4) => dijkstra::distances_to(plan, goal, dijkstra::NO_BAR)
+        3 => {
+            let no_way = random.pick(&[MOST_OPINION, NO_OPINION]);
+            distances(plan, goal, no_way)
+        }
+        4 => distances(plan, goal, MOST_OPINION)
             .into_iter()
-            .map(|distance| {
-                let distance = distance.map_or(u32::MAX, narrowed);
-                if kind == 3 {
-                    distance
-                } else {
-                    (u32::MAX - distance) % 10_007
-                }
-            })
+            .map(|distance| (MOST_OPINION - distance) % 10_007)
             .collect(),
         // Everything but one vertex is dear.
         5 => {
@@ -198,6 +198,46 @@ pub fn random_sheet(random: &mut Random, plan: &Plan, goal: u32, anchor: &[u32])
         }
         _ => (0..vertices).map(|_| random.range32(0, most)).collect(),
     }
+}
+
+/// A guide sheet of true distances, and another number where no walk leads to
+/// the goal.
+fn distances(plan: &Plan, goal: u32, no_way: u32) -> Vec<u32> {
+    dijkstra::distances_to(plan, goal, dijkstra::NO_BAR)
+        .into_iter()
+        .map(|distance| distance.map_or(no_way, |far| narrowed(far).min(MOST_OPINION)))
+        .collect()
+}
+
+/// Takes opinions out of a job's guide sheets, of one or of all: so many in a
+/// hundred, those on the start, those on the goal.
+pub fn take_opinions(random: &mut Random, job: &mut Job, hundredths: u64) {
+    if job.guide_count == 0 {
+        return;
+    }
+    let one = random.index(job.guide_count as usize);
+    let all = random.one_in(2);
+    let end = random.pick(&[Some(job.start), Some(job.goal), None, None]);
+    let sheets = job.guides.chunks_exact_mut(job.anchor.len()).enumerate();
+    for (_, sheet) in sheets.filter(|&(guide, _)| all || guide == one) {
+        for number in sheet.iter_mut() {
+            if random.below(100) < hundredths {
+                *number = NO_OPINION;
+            }
+        }
+        if let Some(end) = end {
+            sheet[end as usize] = NO_OPINION;
+        }
+    }
+}
+
+/// A job as it is, or with opinions taken out at any rate.
+fn with_fewer_opinions(random: &mut Random, (plan, mut job): (Plan, Job)) -> (Plan, Job) {
+    if random.one_in(3) {
+        let hundredths = random.pick(&[0, 5, 20, 50, 80, 95, 100]);
+        take_opinions(random, &mut job, hundredths);
+    }
+    (plan, job)
 }
 
 /// A barred number: often none, else one class or several that the plan's
@@ -390,8 +430,8 @@ pub fn random_job(random: &mut Random, shape: Shape) -> (Plan, Job) {
 
 /// A job as it is, or with all its costs and tables times a factor, up to
 /// that by which its dearest edge comes near the greatest cost; the search
-/// goes the same way. The tables keep the anchor's rule, also where they end
-/// at the greatest number.
+/// goes the same way. The anchor table keeps its rule, also where it ends at
+/// the greatest number; no opinion stays none, and an opinion stays one.
 fn dearer(random: &mut Random, (mut plan, mut job): (Plan, Job)) -> (Plan, Job) {
     let dearest = plan.costs.iter().copied().max().unwrap_or(0);
     if dearest == 0 || !random.one_in(4) {
@@ -402,9 +442,11 @@ fn dearer(random: &mut Random, (mut plan, mut job): (Plan, Job)) -> (Plan, Job) 
         true => most,
         false => random.range32(1, most),
     };
-    let tables = job.anchor.iter_mut().chain(&mut job.guides);
-    for number in plan.costs.iter_mut().chain(tables) {
+    for number in plan.costs.iter_mut().chain(&mut job.anchor) {
         *number = number.saturating_mul(factor);
+    }
+    for number in job.guides.iter_mut().filter(|h| **h != NO_OPINION) {
+        *number = number.saturating_mul(factor).min(MOST_OPINION);
     }
     job.bytes = plan.bytes();
     (plan, job)
@@ -616,7 +658,7 @@ pub fn steep_job(random: &mut Random) -> (Plan, Job) {
             let number = random.range32(0, most);
             (0..vertices)
                 .map(|_| match hostile {
-                    true => u32::MAX,
+                    true => MOST_OPINION,
                     false => random.range32(0, number),
                 })
                 .collect::<Vec<u32>>()
@@ -642,6 +684,30 @@ pub fn steep_job(random: &mut Random) -> (Plan, Job) {
     (plan, job)
 }
 
+/// A job so far and dear that guides expand vertices even at the greatest
+/// numbers, W1 being low and W2 high; they have no opinion on some.
+pub fn far_job(random: &mut Random) -> (Plan, Job) {
+    let shape = random.pick(&[Shape::Ladder, Shape::Grid, Shape::Dense]);
+    let mut plan = random_graph(random, shape);
+    let least = random.pick(&[MOST_COST - 9, MOST_COST / 2]);
+    plan.costs.fill_with(|| random.range32(least, MOST_COST));
+    let mut job = job_on(random, &plan);
+    let mut wish = vec![u32::MAX; plan.vertices as usize];
+    wish[job.goal as usize] = 0;
+    job.anchor = dijkstra::consistent_table(&plan, &wish);
+    job.guide_count = random.range32(1, 3);
+    let spread = random.pick(&[0, 3, MOST_COST, 50 * MOST_COST]);
+    job.guides = (0..job.guide_count * plan.vertices)
+        .map(|_| MOST_OPINION - random.range32(0, spread))
+        .collect();
+    let hundredths = random.pick(&[10, 30, 50, 80]);
+    take_opinions(random, &mut job, hundredths);
+    let rounds = random.range(1, 3) as usize;
+    let most = [random.pick(&[100, 120, 200]), 10_000];
+    job.schedule = falling_factors(random, rounds, most);
+    (plan, job)
+}
+
 /// The turns after which rounds end, with a budget that never runs out.
 pub fn ends_of_rounds(job: &Job) -> Vec<u32> {
     let mut job = job.clone();
@@ -661,16 +727,18 @@ pub fn ends_of_rounds(job: &Job) -> Vec<u32> {
 pub fn valid_jobs(seed: u64, count: usize, sink: &mut dyn FnMut(&Plan, &Job)) {
     let mut random = Random::new(seed);
     for _ in 0..count {
-        let job = match random.below(6) {
+        let job = match random.below(7) {
             0 => twisted_job(&mut random),
             1 => detour_job(&mut random),
             2 => steep_job(&mut random),
+            3 => far_job(&mut random),
             _ => {
                 let shape = random.pick(&SHAPES);
                 random_job(&mut random, shape)
             }
         };
-        let (plan, mut job) = dearer(&mut random, job);
+        let job = dearer(&mut random, job);
+        let (plan, mut job) = with_fewer_opinions(&mut random, job);
         sink(&plan, &job);
         let mut budgets = Vec::new();
         for end in ends_of_rounds(&job) {
@@ -747,13 +815,48 @@ fn long_job(random: &mut Random) -> (Plan, Job) {
     (plan, job)
 }
 
+/// A job along a path twice as long, with cheaper ways beside some edges near
+/// its front, over vertices of their own. The guide keeps off these, without
+/// opinion or with the greatest number, and later rounds find them.
+fn gated_job(random: &mut Random) -> (Plan, Job) {
+    let way = random.range32(560, 640);
+    let gates = random.range32(1, 3);
+    let mut edges: Vec<(u32, u32, u32)> = (1..way)
+        .map(|head| (head - 1, head, random.range32(LONG_COST, MOST_COST)))
+        .collect();
+    for gate in way..way + gates {
+        let tail = random.range32(30, 150);
+        edges.push((tail, gate, random.range32(1_000_001, 2_097_152)));
+        edges.push((gate, tail + 1, random.range32(1_000_001, 2_097_152)));
+    }
+    let (plan, numbers) = renumbered(random, way + gates, &edges);
+    let mut sheet = vec![0; numbers.len()];
+    for &gate in &numbers[way as usize..] {
+        sheet[gate as usize] = random.pick(&[MOST_OPINION, NO_OPINION, NO_OPINION]);
+    }
+    let rounds = random.range(1, 8) as usize;
+    let mut schedule = vec![100, 10_000];
+    schedule.extend(falling_factors(random, rounds, [100, 1_000]));
+    let (start, goal) = (numbers[0], numbers[way as usize - 1]);
+    let anchor = vec![0; numbers.len()];
+    let mut job = Job::new(&plan, start, goal, anchor, sheet, 1, schedule, u32::MAX);
+    job.log_room = random.pick(&[0, 700, 3_000]);
+    (plan, job)
+}
+
 /// Valid jobs along long paths, larger than a bench job: each with a budget
 /// that never runs out, with one that cuts the path, and with one near the
 /// end of a round.
 pub fn long_jobs(seed: u64, count: usize, sink: &mut dyn FnMut(&Plan, &Job)) {
     let mut random = Random::new(seed);
     for _ in 0..count {
-        let (plan, mut job) = long_job(&mut random);
+        let (plan, mut job) = match random.one_in(3) {
+            true => gated_job(&mut random),
+            false => {
+                let job = long_job(&mut random);
+                with_fewer_opinions(&mut random, job)
+            }
+        };
         sink(&plan, &job);
         let ends = ends_of_rounds(&job);
         let end = random.pick(&ends);
@@ -924,7 +1027,8 @@ pub fn wild_jobs(seed: u64, count: usize, sink: &mut dyn FnMut(&Job)) {
     let mut random = Random::new(seed);
     for _ in 0..count {
         let shape = random.pick(&SHAPES);
-        let (plan, mut job) = random_job(&mut random, shape);
+        let job = random_job(&mut random, shape);
+        let (plan, mut job) = with_fewer_opinions(&mut random, job);
         job.budget = random.pick(&[0, 1, 2, 5, 100, u32::MAX]);
         for _ in 0..random.below(4) {
             // Only call faults are laid one over another: the anchor's rows
@@ -957,13 +1061,15 @@ pub fn wild_jobs(seed: u64, count: usize, sink: &mut dyn FnMut(&Job)) {
 pub fn every_budget(seed: u64, count: usize, sink: &mut dyn FnMut(&Plan, &Job)) {
     let mut random = Random::new(seed);
     for _ in 0..count {
-        let job = match random.below(4) {
+        let job = match random.below(5) {
             0 => twisted_job(&mut random),
             1 => detour_job(&mut random),
             2 => steep_job(&mut random),
+            3 => far_job(&mut random),
             _ => random_job(&mut random, Shape::Tiny),
         };
-        let (plan, mut job) = dearer(&mut random, job);
+        let job = dearer(&mut random, job);
+        let (plan, mut job) = with_fewer_opinions(&mut random, job);
         let last = ends_of_rounds(&job).into_iter().max().unwrap_or(0);
         for budget in 0..=last + 2 {
             job.budget = budget;
@@ -976,7 +1082,8 @@ pub fn every_budget(seed: u64, count: usize, sink: &mut dyn FnMut(&Plan, &Job)) 
 pub fn every_barred(seed: u64, count: usize, sink: &mut dyn FnMut(&Job)) {
     let mut random = Random::new(seed);
     for index in 0..count {
-        let (_, mut job) = random_job(&mut random, SHAPES[index % SHAPES.len()]);
+        let job = random_job(&mut random, SHAPES[index % SHAPES.len()]);
+        let (_, mut job) = with_fewer_opinions(&mut random, job);
         for barred in (0..=256).chain([257, 511, 512, 65_536, u32::MAX]) {
             job.barred = barred;
             sink(&job);
@@ -1082,18 +1189,26 @@ pub fn whole_path(cost: u32) -> Plan {
 }
 
 /// Jobs on the path through all vertices, with tables of the least and of the
-/// greatest numbers.
+/// greatest numbers, and without opinion.
 fn path_jobs(cost: u32, sink: &mut dyn FnMut(&Plan, &Job)) {
     let path = whole_path(cost);
     let to_goal: Vec<u32> = (0..4_096)
         .map(|vertex| narrowed((4_095 - vertex) * u64::from(cost)))
         .collect();
-    let greatest = vec![u32::MAX; 4_096];
+    let greatest = vec![MOST_OPINION; 4_096];
+    let no_opinion = vec![NO_OPINION; 4_096];
     for (anchor, guides, guide_count, schedule) in [
         (vec![0; 4_096], vec![], 0, vec![100, 100]),
         (to_goal.clone(), greatest.clone(), 1, vec![10_000, 10_000]),
-        (to_goal, vec![0; 4_096], 1, vec![10_000, 10_000, 100, 100]),
+        (
+            to_goal.clone(),
+            vec![0; 4_096],
+            1,
+            vec![10_000, 10_000, 100, 100],
+        ),
         (vec![0; 4_096], greatest, 1, vec![10_000, 100]),
+        (to_goal, no_opinion.clone(), 1, vec![100, 10_000]),
+        (vec![0; 4_096], no_opinion, 1, vec![100, 10_000, 100, 100]),
     ] {
         let mut job = Job::new(
             &path,

@@ -15,6 +15,13 @@ pub const NONE: u32 = u32::MAX;
 /// The paper's 2^64 − 1: not reached, never expanded.
 pub const UNREACHED: u64 = u64::MAX;
 
+/// On a guide sheet: the guide has no opinion on the vertex. In the anchor
+/// table it is a number like the others.
+pub const NO_OPINION: u32 = u32::MAX;
+
+/// The greatest number on a guide sheet that is an opinion.
+pub const MOST_OPINION: u32 = NO_OPINION - 1;
+
 /// W1 and W2 of each round where the schedule is empty.
 pub const HOUSE_SCHEDULE: [u32; 12] = [500, 500, 300, 300, 200, 200, 150, 150, 120, 120, 100, 100];
 
@@ -32,8 +39,9 @@ pub fn wide_numbers(vertices: usize) -> usize {
 }
 
 /// What one planner call is asked: the paper's job. Bit k of `barred` bars
-/// the edges of class k. The guide sheets stand one after another, the
-/// schedule has W1 and W2 of each round.
+/// the edges of class k. The guide sheets stand one after another, with
+/// [`NO_OPINION`] where a guide has none; the schedule has W1 and W2 of each
+/// round.
 #[derive(Clone, Copy, Debug)]
 pub struct Request<'a> {
     pub bytes: &'a [u8],
@@ -134,6 +142,15 @@ impl Answer {
 pub enum Event {
     /// A round begins; rounds and turns count from 1.
     Begin { round: u32 },
+    /// The guide with the turn has no opinion on the vertex whose key would
+    /// be the least if the number there was one. `within`: the guide would
+    /// expand it; `left`: another vertex is left to the guide.
+    NoOpinion {
+        guide: u32,
+        vertex: u32,
+        within: bool,
+        left: bool,
+    },
     /// A vertex is expanded at cost `g`; table 0 is the anchor. `no_line`:
     /// the guide with the turn had no vertex to take.
     Turn {
@@ -224,10 +241,36 @@ pub enum Fault {
     NarrowTrace,
     /// Keys have g in 32 bits.
     NarrowKey,
+    /// 4,294,967,295 is a number like the others.
+    OpinionTaken,
+    /// Guides take the vertices alone that they have no opinion on.
+    OpinionInverted,
+    /// The anchor has no opinion either where its table has the number.
+    OpinionOfAnchor,
+    /// 4,294,967,294 means no opinion too.
+    OpinionOneLessToo,
+    /// 4,294,967,294 means no opinion, and 4,294,967,295 is a number.
+    OpinionOneLess,
+    /// What one guide has no opinion on no guide takes.
+    OpinionOfAnyGuide,
+    /// What the first guide has no opinion on no guide takes, and other
+    /// sheets have numbers alone.
+    OpinionOfFirstGuide,
+    /// A guide without a vertex to take loses its turn to the next guide.
+    OpinionLosesTurn,
+    /// A vertex without opinion still has the least key, and the anchor fills
+    /// the turn.
+    OpinionAfterKey,
+    /// A guide has an opinion on the start, whatever its sheet says.
+    OpinionOnStart,
+    /// From the second round on the number is one like the others.
+    OpinionInFirstRound,
+    /// No opinion counts as 0.
+    OpinionOfZero,
 }
 
 /// All faults.
-pub const FAULTS: [Fault; 30] = [
+pub const FAULTS: [Fault; 42] = [
     Fault::CostOfGoal,
     Fault::OpenAgain,
     Fault::Forgotten,
@@ -258,11 +301,28 @@ pub const FAULTS: [Fault; 30] = [
     Fault::NarrowUnreached,
     Fault::NarrowTrace,
     Fault::NarrowKey,
+    Fault::OpinionTaken,
+    Fault::OpinionInverted,
+    Fault::OpinionOfAnchor,
+    Fault::OpinionOneLessToo,
+    Fault::OpinionOneLess,
+    Fault::OpinionOfAnyGuide,
+    Fault::OpinionOfFirstGuide,
+    Fault::OpinionLosesTurn,
+    Fault::OpinionAfterKey,
+    Fault::OpinionOnStart,
+    Fault::OpinionInFirstRound,
+    Fault::OpinionOfZero,
 ];
 
 /// Who looks on at a search: counts its events, or plants a fault.
 trait Onlooker {
     fn has(&self, _fault: Fault) -> bool {
+        false
+    }
+
+    /// Whether events are looked at.
+    fn looks(&self) -> bool {
         false
     }
 
@@ -283,6 +343,10 @@ struct Observer<'a> {
 impl Onlooker for Observer<'_> {
     fn has(&self, fault: Fault) -> bool {
         self.fault == Some(fault)
+    }
+
+    fn looks(&self) -> bool {
+        true
     }
 
     fn observe(&mut self, event: impl FnOnce() -> Event) {
@@ -395,6 +459,7 @@ struct Search<'a, O> {
     graph: Graph<'a>,
     vertices: &'a mut [Vertex],
     wide: &'a mut [Wide],
+    start: usize,
     goal: usize,
     barred: u32,
     anchor: &'a [u32],
@@ -425,16 +490,22 @@ impl<O: Onlooker> Search<'_, O> {
     }
 
     /// The least key(s,i) = 100·g(s) + W1·hi(s) over the open vertices
-    /// without the marks `without`, and its vertex; equal keys: the lowest
-    /// vertex.
-    fn least(&self, table: &[u32], w1: u64, without: u32) -> Option<(u64, usize)> {
+    /// without the marks `without` that count with their number in the table,
+    /// and its vertex; equal keys: the lowest vertex.
+    fn least(
+        &self,
+        table: &[u32],
+        w1: u64,
+        without: u32,
+        counts: impl Fn(usize, u32) -> bool,
+    ) -> Option<(u64, usize)> {
         // No key is so great: 100 · 65,520,000,000 + 10,000 · 4,294,967,295 is
         // the most.
         let (mut least, mut lowest) = (u64::MAX, None);
         let both = self.vertices.iter().zip(self.wide.iter());
         for (vertex, ((&[_, marks], &[g, _]), &h)) in both.zip(table).enumerate() {
-            if marks & (OPEN | without) == OPEN {
-                let key = 100 * self.key_cost(g) + w1 * u64::from(h);
+            if marks & (OPEN | without) == OPEN && counts(vertex, h) {
+                let key = 100 * self.key_cost(g) + w1 * self.key_number(h);
                 if key < least || key == least && self.onlooker.has(Fault::HighestVertex) {
                     (least, lowest) = (key, Some(vertex));
                 }
@@ -448,6 +519,14 @@ impl<O: Onlooker> Search<'_, O> {
         match self.onlooker.has(Fault::NarrowKey) {
             true => u64::from(g as u32),
             false => g,
+        }
+    }
+
+    /// What a key takes for a table's number.
+    fn key_number(&self, h: u32) -> u64 {
+        match self.onlooker.has(Fault::OpinionOfZero) && h == NO_OPINION {
+            true => 0,
+            false => u64::from(h),
         }
     }
 
@@ -585,7 +664,16 @@ impl<O: Onlooker> Search<'_, O> {
         goal_cost != unreached(&self.onlooker) && 10_000 * goal_cost + strict <= factor * m
     }
 
-    /// The least key of the guide with the turn, and its vertex.
+    /// The anchor's least key and its vertex: every number of its table is
+    /// one.
+    fn anchor_line(&self, w1: u64) -> Option<(u64, usize)> {
+        let none = self.onlooker.has(Fault::OpinionOfAnchor);
+        let counts = |_: usize, h: u32| h != NO_OPINION || !none;
+        self.least(self.anchor, w1, 0, counts)
+    }
+
+    /// The least key of the guide with the turn over the vertices that it has
+    /// an opinion on, and its vertex.
     fn guide_line(&self, guide: usize, w1: u64) -> Option<(u64, usize)> {
         if self.guide_count == 0 {
             return None;
@@ -594,7 +682,60 @@ impl<O: Onlooker> Search<'_, O> {
             true => 0,
             false => GUIDE_MARK,
         };
-        self.least(self.guide(guide), w1, without)
+        let counts = |vertex, h| self.has_opinion(guide, vertex, h);
+        let line = self.least(self.guide(guide), w1, without, counts)?;
+        let refused =
+            self.onlooker.has(Fault::OpinionAfterKey) && self.guide(guide)[line.1] == NO_OPINION;
+        (!refused).then_some(line)
+    }
+
+    /// Whether a guide's number at a vertex is an opinion.
+    fn has_opinion(&self, guide: usize, vertex: usize, h: u32) -> bool {
+        let has = |fault| self.onlooker.has(fault);
+        let number = has(Fault::OpinionTaken)
+            || has(Fault::OpinionAfterKey)
+            || has(Fault::OpinionOfZero)
+            || has(Fault::OpinionOneLess)
+            || has(Fault::OpinionOfFirstGuide) && guide > 1
+            || has(Fault::OpinionOnStart) && vertex == self.start
+            || has(Fault::OpinionInFirstRound) && self.rounds > 0;
+        let mut opinion = h != NO_OPINION || number;
+        if has(Fault::OpinionOneLess) || has(Fault::OpinionOneLessToo) {
+            opinion &= h != MOST_OPINION;
+        }
+        if has(Fault::OpinionOfAnyGuide) {
+            let mut sheets = self.guides.chunks_exact(self.vertices.len());
+            opinion &= sheets.all(|sheet| sheet[vertex] != NO_OPINION);
+        }
+        if has(Fault::OpinionOfFirstGuide) {
+            opinion &= self.guides[vertex] != NO_OPINION;
+        }
+        opinion != has(Fault::OpinionInverted)
+    }
+
+    /// Whether a guide's least key is within w2 times the anchor's, m.
+    fn is_within(&self, key: u64, m: u64, factors: Factors) -> bool {
+        let strict = u64::from(self.onlooker.has(Fault::GuideStrict));
+        100 * key + strict <= factors.w2 * m
+    }
+
+    /// Tells of a vertex that the guide with the turn has no opinion on and
+    /// that would have the least key with a number there, m being the
+    /// anchor's least key.
+    fn tell_of_opinion(&mut self, guide: usize, m: u64, factors: Factors, left: bool) {
+        if self.guide_count == 0 || !self.onlooker.looks() {
+            return;
+        }
+        let any = self.least(self.guide(guide), factors.w1, GUIDE_MARK, |_, _| true);
+        let without = |&(_, vertex): &(u64, usize)| self.guide(guide)[vertex] == NO_OPINION;
+        if let Some((key, vertex)) = any.filter(without) {
+            self.onlooker.observe(|| Event::NoOpinion {
+                guide: guide as u32,
+                vertex: vertex as u32,
+                within: 100 * key <= factors.w2 * m,
+                left,
+            });
+        }
     }
 
     /// A turn: a vertex is marked, noted and expanded for a table.
@@ -626,6 +767,18 @@ impl<O: Onlooker> Search<'_, O> {
         }
     }
 
+    /// The guide with the turn is the one whose turn it is; a faulty planner
+    /// gives the turn to the next one with a vertex to take.
+    fn guide_with_turn(&self, guide: usize, w1: u64) -> usize {
+        if !self.onlooker.has(Fault::OpinionLosesTurn) {
+            return guide;
+        }
+        let guides = std::iter::successors(Some(guide), |&guide| Some(self.guide_after(guide, 1)));
+        let mut guides = guides.take(self.guide_count);
+        let found = guides.find(|&guide| self.guide_line(guide, w1).is_some());
+        found.unwrap_or(guide)
+    }
+
     /// Nothing is open any more.
     fn no_route(&mut self, round: u32) -> End {
         let held = |[_, marks]: &&Vertex| marks & HELD != 0;
@@ -647,7 +800,7 @@ impl<O: Onlooker> Search<'_, O> {
                 return Some(End::Spent);
             }
             // Step 1.
-            let Some((m, anchor_choice)) = self.least(self.anchor, factors.w1, 0) else {
+            let Some((m, anchor_choice)) = self.anchor_line(factors.w1) else {
                 return Some(self.no_route(round));
             };
             if self.is_finished(m, factors) {
@@ -660,17 +813,15 @@ impl<O: Onlooker> Search<'_, O> {
                 return Some(End::Spent);
             }
             // Step 3.
+            guide = self.guide_with_turn(guide, factors.w1);
             let line = self.guide_line(guide, factors.w1);
             let no_line = self.guide_count > 0 && line.is_none();
+            self.tell_of_opinion(guide, m, factors, !no_line);
             if no_line && self.onlooker.has(Fault::NothingExpanded) {
                 return Some(End::NoRoute);
             }
-            let strict = u64::from(self.onlooker.has(Fault::GuideStrict));
-            let choice = line.filter(|&(key, _)| 100 * key + strict <= factors.w2 * m);
-            let (table, vertex) = match choice {
-                Some((_, vertex)) => (guide, vertex),
-                None => (0, anchor_choice),
-            };
+            let choice = line.filter(|&(key, _)| self.is_within(key, m, factors));
+            let (table, vertex) = choice.map_or((0, anchor_choice), |(_, vertex)| (guide, vertex));
             self.take_turn(round, table, vertex, no_line);
             guide = self.guide_after(guide, table);
             self.next_guide = guide;
@@ -898,6 +1049,7 @@ fn loaded<'a, O: Onlooker>(
         graph,
         vertices: state,
         wide,
+        start,
         goal: request.goal as usize,
         barred: request.barred,
         anchor: request.anchor,

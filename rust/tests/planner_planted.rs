@@ -762,7 +762,8 @@ fn each_fault_of_the_search_is_found() {
         println!("{fault:?}: {differing} in {jobs} jobs");
         assert_eq!(differing, ENOUGH, "{fault:?} in {jobs} jobs");
         // Work memory alone shows some of them, or almost alone, and no bench
-        // job has costs beyond 32 bits.
+        // job has costs beyond 32 bits, without which a later round is
+        // finished before a guide would expand a vertex at so great a number.
         if !matches!(
             fault,
             Fault::Forgotten
@@ -773,6 +774,7 @@ fn each_fault_of_the_search_is_found() {
                 | Fault::NarrowUnreached
                 | Fault::NarrowTrace
                 | Fault::NarrowKey
+                | Fault::OpinionInFirstRound
         ) {
             let (differing, texts) = seeded.differing_texts(&planner);
             println!("{fault:?}: {differing} in {texts} texts");

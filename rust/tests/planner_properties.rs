@@ -421,8 +421,8 @@ fn jobs_at_the_limits() {
                 costs.push(cost);
             }
         });
-        assert_eq!(costs[..4], [4_095_000_000; 4]);
-        assert_eq!(costs[4..8], [65_520_000_000; 4]);
+        assert_eq!(costs[..6], [4_095_000_000; 6]);
+        assert_eq!(costs[6..12], [65_520_000_000; 6]);
         assert!(met.routes >= 5);
     }
 }
