@@ -3,7 +3,7 @@
 use secondcoop_tests::bench_text;
 use secondcoop_tests::guarded::GUARD;
 use secondcoop_tests::jobs;
-use secondcoop_tests::planner::Answer;
+use secondcoop_tests::planner::{Answer, MOST_OPINION, NO_OPINION};
 use secondcoop_tests::planners::{self, SecondPlanner, KINDS};
 
 #[test]
@@ -76,22 +76,19 @@ fn the_text_and_the_call_agree() {
 #[test]
 fn the_limit_of_job_bytes() {
     let plan = secondcoop_tests::generate::Plan::without_edges(256);
-    // Sheets of numbers in five groups: 256 × 8 × 5 bytes.
-    let job = jobs::Job::new(
-        &plan,
-        0,
-        1,
-        vec![0; 256],
-        vec![u32::MAX; 8 * 256],
-        8,
-        vec![],
-        1,
-    );
-    let mut bytes = job.bench_bytes();
-    assert_eq!(
-        bench_text::bench_text(&bytes),
-        "turn 1 table 0 place 0\nno route turns 1\n"
-    );
+    // Sheets of numbers in five groups, 256 × 8 × 5 bytes: the greatest, and no
+    // opinion.
+    let [mut bytes, other] = [MOST_OPINION, NO_OPINION].map(|number| {
+        let sheets = vec![number; 8 * 256];
+        jobs::Job::new(&plan, 0, 1, vec![0; 256], sheets, 8, vec![], 1).bench_bytes()
+    });
+    assert_eq!(bytes.len(), other.len());
+    for bytes in [&bytes, &other] {
+        assert_eq!(
+            bench_text::bench_text(bytes),
+            "turn 1 table 0 place 0\nno route turns 1\n"
+        );
+    }
     bytes.resize(32_768, 0);
     // The fault of the plan counts before the bytes left over, but not
     // before a job that is too long.

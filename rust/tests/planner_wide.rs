@@ -8,7 +8,7 @@ use secondcoop_tests::dijkstra::{self, NO_BAR};
 use secondcoop_tests::generate::Plan;
 use secondcoop_tests::guarded::GUARD;
 use secondcoop_tests::jobs::{self, Job};
-use secondcoop_tests::planner::{Answer, HOUSE_SCHEDULE, UNREACHED};
+use secondcoop_tests::planner::{Answer, HOUSE_SCHEDULE, MOST_OPINION, NO_OPINION, UNREACHED};
 use secondcoop_tests::planners::{
     self, Comparison, Lent, Library, Outcome, Planner, SecondPlanner,
 };
@@ -138,7 +138,9 @@ fn every_round_along_the_whole_path() {
     let plan = path();
     let whole = 4_095 * COST;
     assert_eq!(whole, 65_520_000_000);
-    for sheets in [&[][..], &[vec![0; 4_096]], &[vec![u32::MAX; 4_096]]] {
+    let sheets = [0, MOST_OPINION, NO_OPINION].map(|number| [vec![number; 4_096]]);
+    let [zeros, greatest, no_opinion] = &sheets;
+    for sheets in [&[][..], zeros, greatest, no_opinion] {
         let job = job(&plan, 4_095, sheets);
         assert_eq!(kept_costs(&plan, &job), [whole; 6]);
         let outcome = agreed(&job);
@@ -153,39 +155,64 @@ fn every_round_along_the_whole_path() {
     }
 }
 
+/// A job with a guide that has 0 everywhere but at the gates.
+fn gated_job(plan: &Plan, at_gates: u32) -> Job {
+    let mut sheet = vec![0; VERTICES as usize];
+    sheet[LONG_WAY as usize..].fill(at_gates);
+    job(plan, LONG_WAY - 1, &[sheet])
+}
+
 /// A guide that keeps off the gates takes the long way first; each round
 /// finds one gate more. The greatest number keeps it off where W1 is great: at
 /// W1 = 500 it counts for less than a long way.
 #[test]
 fn every_round_takes_another_route() {
     let plan = path_with_gates();
-    let mut sheet = vec![0; VERTICES as usize];
-    sheet[LONG_WAY as usize..].fill(u32::MAX);
-    let mut job = job(&plan, LONG_WAY - 1, &[sheet]);
+    let mut job = gated_job(&plan, MOST_OPINION);
     assert_eq!(kept_costs(&plan, &job).len(), 6);
     for (round, factors) in job.schedule.chunks_exact_mut(2).enumerate() {
         factors[0] = if round < 5 { 10_000 } else { 100 };
     }
-    let long_way = u64::from(LONG_WAY - 1) * COST;
-    let costs: Vec<u64> = (0..6).map(|gates| long_way - gates * SAVED).collect();
+    let costs = costs_by_gates();
     assert!(costs.iter().all(|&cost| cost > 15 << 32));
     assert_eq!(kept_costs(&plan, &job), costs);
 }
 
-/// Sheets of the greatest numbers, of any numbers, of zeros, and of what is
-/// far first.
+/// What the long way costs over no gate, over one, and so on.
+fn costs_by_gates() -> Vec<u64> {
+    let long_way = u64::from(LONG_WAY - 1) * COST;
+    (0..6).map(|gates| long_way - gates * SAVED).collect()
+}
+
+/// A guide without opinion on the gates keeps off them at every W1, in later
+/// rounds too; at the greatest number it goes through one in the first round
+/// of the house schedule.
+#[test]
+fn no_opinion_keeps_off_at_every_factor() {
+    let plan = path_with_gates();
+    let costs = costs_by_gates();
+    assert_eq!(kept_costs(&plan, &gated_job(&plan, NO_OPINION)), costs);
+    let first = Job {
+        schedule: HOUSE_SCHEDULE[..2].to_vec(),
+        ..gated_job(&plan, MOST_OPINION)
+    };
+    assert!(kept_costs(&plan, &first)[0] < costs[0]);
+}
+
+/// Sheets of the greatest numbers, of any numbers, of zeros, of what is far
+/// first, and one without opinions.
 fn hostile_sheets() -> Vec<Vec<u32>> {
     let mut random = Random::new(81);
     let mut any =
         |most: u32| -> Vec<u32> { (0..VERTICES).map(|_| random.range32(0, most)).collect() };
     vec![
-        vec![u32::MAX; VERTICES as usize],
-        any(u32::MAX),
+        vec![MOST_OPINION; VERTICES as usize],
+        any(MOST_OPINION),
         vec![0; VERTICES as usize],
         any(16_000_000),
         (0..VERTICES).map(|vertex| vertex * 1_000_000).collect(),
         any(1),
-        vec![u32::MAX; VERTICES as usize],
+        vec![NO_OPINION; VERTICES as usize],
         any(1_000),
     ]
 }

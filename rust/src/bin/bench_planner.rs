@@ -8,7 +8,7 @@ use secondcoop_tests::clock::thread_time;
 use secondcoop_tests::dijkstra;
 use secondcoop_tests::generate::Plan;
 use secondcoop_tests::jobs::Job;
-use secondcoop_tests::planner::{Figures, Memory};
+use secondcoop_tests::planner::{Figures, Memory, MOST_OPINION, NO_OPINION};
 use secondcoop_tests::planners::{Library, Planner, SecondPlanner};
 use secondcoop_tests::random::Random;
 
@@ -60,6 +60,8 @@ enum Sheets {
     /// Two each of: what is far comes first, any numbers, the greatest
     /// number everywhere, 0 everywhere.
     Hostile,
+    /// As sensible ones, without opinion on every second vertex or so.
+    HalfOpinions,
 }
 
 /// A job across a floor: eight guides, the house schedule, an anchor table
@@ -80,8 +82,10 @@ fn job(seed: u64, width: u32, height: u32, sheets: Sheets) -> Job {
             (Sheets::Sensible, _) => d * random.range32(80, 130) / 100,
             (Sheets::Hostile, 0) => (farthest - d) / 10,
             (Sheets::Hostile, 1) => random.range32(0, farthest / 10),
-            (Sheets::Hostile, 2) => u32::MAX,
+            (Sheets::Hostile, 2) => MOST_OPINION,
             (Sheets::Hostile, _) => 0,
+            (Sheets::HalfOpinions, _) if random.one_in(2) => NO_OPINION,
+            (Sheets::HalfOpinions, _) => d * random.range32(80, 130) / 100,
         };
         guides.extend(distances.iter().copied().map(sheet));
     }
@@ -222,7 +226,11 @@ fn main() {
     titles([
         "job", "V", "rounds", "turns", "ms", "ms", "ns/turn", "ns/turn", "ratio",
     ]);
-    for (name, sheets) in [("sensible", Sheets::Sensible), ("hostile", Sheets::Hostile)] {
+    for (name, sheets) in [
+        ("sensible", Sheets::Sensible),
+        ("hostile", Sheets::Hostile),
+        ("half", Sheets::HalfOpinions),
+    ] {
         let sizes = [(16, 16), (32, 16), (32, 32), (64, 32), (64, 64)];
         let turns = sizes.map(|(width, height)| {
             compare(&format!("{name} sheets"), &job(7, width, height, sheets))
