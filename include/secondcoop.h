@@ -91,8 +91,12 @@ extern "C" {
  * and never expanded SECONDCOOP_UNREACHED stands there, and a kept cost may
  * pass 32 bits. Plan bytes of version 2 are plan bytes still, and of the same
  * plan.
+ *
+ * Version 4: 4294967295 on a guide sheet, SECONDCOOP_NO_OPINION, was a number
+ * like the others; now the guide has no opinion on that place. In the anchor
+ * table it is a number as before, and no declaration changes.
  */
-#define SECONDCOOP_VERSION 3
+#define SECONDCOOP_VERSION 4
 
 /* Limits of a plan and of a call. */
 #define SECONDCOOP_MAX_PLACES 4096
@@ -146,6 +150,10 @@ extern "C" {
 
 /* No predecessor; and what follows a route. */
 #define SECONDCOOP_NONE UINT32_C(4294967295)
+
+/* On a guide sheet: the guide has no opinion on the place, as where the
+ * warehouse's own map shows no way through. */
+#define SECONDCOOP_NO_OPINION UINT32_C(4294967295)
 
 /* The cost of a place not reached, and that when last expanded of a place
  * never expanded. */
@@ -268,9 +276,14 @@ enum {
  *              (SECONDCOOP_CLASS).
  * anchor       The anchor table, V numbers: 0 at the goal, and on every lane,
  *              barred ones too, the tail's number is at most cost + the
- *              head's number. A table of zeros always passes.
+ *              head's number. A table of zeros always passes. 4294967295 is
+ *              a number like the others here.
  * guides       The guide sheets one after another, guide_count times V
- *              numbers, guide_count 0 to 8; any numbers.
+ *              numbers, guide_count 0 to 8; any numbers. Where a sheet has
+ *              SECONDCOOP_NO_OPINION, that guide has no opinion on the place
+ *              and never expands it; other guides and the anchor may. A
+ *              guide's turn for which no place is left goes to the anchor,
+ *              so a sheet of that number alone leaves all its turns to it.
  * schedule     W1 and W2 of each round in hundredths, 100 to 10000, neither
  *              rising from a round to the next; up to 16 rounds, 32 numbers.
  *              An empty schedule means the house schedule, W1 = W2 = 500,

@@ -124,6 +124,30 @@ static void planner(void)
            (const uint64_t[]){SECONDCOOP_REFUSED, 8, 0, 0, 0, 0, 0, 0}, 8);
 }
 
+/* A guide without opinion on place 0 leaves it to the anchor, in whose table
+ * the same number is one; at one less the guide expands it. */
+static void opinions(void)
+{
+    static const uint8_t plan[] = {2, 0};
+    static const uint32_t anchor[] = {SECONDCOOP_NO_OPINION, 0};
+    static const struct {
+        uint32_t guides[2], log;
+    } calls[] = {
+        {{SECONDCOOP_NO_OPINION, SECONDCOOP_NO_OPINION}, 0},
+        {{SECONDCOOP_NO_OPINION, 0}, 0},
+        {{SECONDCOOP_NO_OPINION - 1, 0}, 65536},
+    };
+    uint32_t route[2], log[1], work[7];
+    uint64_t figures[SECONDCOOP_PLAN_FIGURES], wide[4];
+    for (size_t at = 0; at < sizeof calls / sizeof *calls; at++) {
+        secondcoop_plan(plan, sizeof plan, 0, 1, 0, anchor, 2, calls[at].guides, 2, 1, anchor, 0,
+                        9, route, 2, log, 1, work, 7, wide, 4, figures);
+        expect("opinions", figures,
+               (const uint64_t[]){SECONDCOOP_NO_ROUTE, 0, 0, 0, 0, 0, 1, 0}, 8);
+        wrong += log[0] != calls[at].log;
+    }
+}
+
 /* Lanes of classes 0, 1 and 2 from place 0 to 2, to 1 and from 1 to 2: what a
  * barred number leaves of them. */
 static void barred(void)
@@ -184,6 +208,7 @@ _Static_assert(SECONDCOOP_WORK_WORDS(4096, 32768) == 110593, "work words");
 _Static_assert(2 * SECONDCOOP_WIDE_NUMBERS(2 + 2) == 16, "wide numbers");
 _Static_assert(SECONDCOOP_WIDE_NUMBERS(4096) == 8192, "wide numbers");
 _Static_assert(SECONDCOOP_UNREACHED == UINT64_MAX, "not reached");
+_Static_assert(SECONDCOOP_NO_OPINION == UINT32_MAX, "no opinion");
 _Static_assert(SECONDCOOP_CLASS(0) == 1 && SECONDCOOP_CLASS(7 - 1) == 64, "classes");
 _Static_assert((SECONDCOOP_CLASS(SECONDCOOP_MAX_CLASS) << 1) - 1 == SECONDCOOP_MAX_BARRED,
                "classes");
@@ -270,6 +295,7 @@ int main(void)
     plans();
     names();
     planner();
+    opinions();
     barred();
     text();
     plan_refusals();

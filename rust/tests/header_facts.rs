@@ -1,6 +1,6 @@
 //! What the C header says beside its declarations: its numbers, the turns
-//! that suffice, a table of zeros, threads, the bytes of a text. What needs a
-//! C program, as stack and alignment, is in `c_programs`.
+//! that suffice, no opinion, a table of zeros, threads, the bytes of a text.
+//! What needs a C program, as stack and alignment, is in `c_programs`.
 
 use std::collections::BTreeMap;
 use std::fs;
@@ -10,6 +10,7 @@ use std::thread;
 use secondcoop_tests::bench_text::MOST_BENCH_VERTICES;
 use secondcoop_tests::ffi;
 use secondcoop_tests::generate;
+use secondcoop_tests::guarded::GUARD;
 use secondcoop_tests::jobs::{self, Job};
 use secondcoop_tests::planner::{self, Answer, HOUSE_SCHEDULE};
 use secondcoop_tests::planners::{self, Library};
@@ -54,6 +55,7 @@ fn numbers_are_those_of_the_second_planner() {
         ("MAX_BARRED", u64::from(planner::MOST_BARRED)),
         ("HOUSE_ROUNDS", HOUSE_SCHEDULE.len() as u64 / 2),
         ("NONE", u64::from(planner::NONE)),
+        ("NO_OPINION", u64::from(planner::NO_OPINION)),
         ("UNREACHED", planner::UNREACHED),
         ("FIGURES", ffi::Figures::default().len() as u64),
         ("PLAN_FIGURES", planner::Figures::default().len() as u64),
@@ -157,6 +159,25 @@ fn turns_that_suffice() {
     });
     // With allowances of their own many of these jobs end unfinished.
     assert!(cut > 1_000 && all > 1_000, "{cut} unfinished, {all} routes");
+}
+
+/// The header's number on a guide sheet leaves the turn to the anchor, in
+/// whose table it is one like the others; one less is a number on both.
+#[test]
+fn no_opinion_is_one_number() {
+    let no_opinion = numbers()["NO_OPINION"] as u32;
+    let plan = generate::Plan::without_edges(2);
+    let first_turn = |anchor: u32, sheet: u32| {
+        let (anchor, sheet) = (vec![anchor, 0], vec![sheet, 0]);
+        let job = Job::new(&plan, 0, 1, anchor, sheet, 1, vec![100, 100], 9);
+        let outcome = planners::run(&Library, &job, 0);
+        assert_eq!(outcome.answer(), Answer::NoRoute { turns: 1 });
+        outcome.log[GUARD]
+    };
+    assert_eq!(first_turn(no_opinion, no_opinion), 0);
+    assert_eq!(first_turn(no_opinion, no_opinion - 1), 65_536);
+    assert_eq!(first_turn(no_opinion - 1, no_opinion - 1), 65_536);
+    assert_eq!(first_turn(no_opinion - 1, no_opinion), 0);
 }
 
 #[test]
