@@ -3,8 +3,9 @@
 //!
 //! A line is `places V`, `lane TAIL HEAD COST CLASS`, `start PLACE`,
 //! `goal PLACE`, `barred NUMBER`, `allowance TURNS`, `round W1 W2`,
-//! `anchor NUMBER ...` or `guide NUMBER ...`; `#` begins a comment. Lanes,
-//! rounds and guides stand in their order, otherwise lines stand anywhere.
+//! `anchor NUMBER ...` or `guide NUMBER ...`, where `-` in a guide's line in
+//! place of a number is no opinion; `#` begins a comment. Lanes, rounds and
+//! guides stand in their order, otherwise lines stand anywhere.
 //! Where no lane has a class all classes are 0, and a barred number that is
 //! left out is 0: texts from before there were classes say what they said.
 //!
@@ -17,6 +18,7 @@ use std::fmt;
 use std::iter;
 
 use crate::generate::push_number;
+use crate::planner::NO_OPINION;
 use crate::reference::{self, MOST_EDGES, MOST_IN_FOUR_GROUPS, MOST_VERTICES};
 use crate::words::{
     count, no_class, not_a_place, quoted, table_name, too_dear, too_many_lanes, wrong_place_count,
@@ -38,6 +40,9 @@ const LINE_WORDS: [&str; 13] = [
     "tables",
     "bytes",
 ];
+
+/// The word in a guide's line for no opinion.
+const NO_OPINION_WORD: &str = "-";
 
 /// The words of lines that have numbers, to be named in a message.
 fn number_words() -> String {
@@ -126,7 +131,7 @@ impl<'a> Words<'a> {
 
     fn begins_no_line<T>(&self) -> Result<T, String> {
         let small = self.word.to_lowercase();
-        let hint = if self.word.parse::<u64>().is_ok() {
+        let hint = if self.word == NO_OPINION_WORD || self.word.parse::<u64>().is_ok() {
             "a table stands on one line".into()
         } else if LINE_WORDS.contains(&small.as_str()) {
             format!("'{small}' does, in small letters")
@@ -147,12 +152,32 @@ impl<'a> Words<'a> {
     fn numbers(&self) -> Result<Vec<u32>, String> {
         let number = |word: &&str| match word.parse() {
             Ok(number) => Ok(number),
+            Err(_) if *word == NO_OPINION_WORD => self.wrong(format!(
+                "'{word}' means that a guide has no opinion; {}",
+                match self.word {
+                    "anchor" => "the anchor table has a number for every place",
+                    _ => "it stands in the line of a guide sheet alone",
+                }
+            )),
             Err(_) => self.wrong(format!(
                 "{} is not a number from 0 to 4294967295",
                 quoted(word)
             )),
         };
         self.rest.iter().map(number).collect()
+    }
+
+    /// A guide's numbers, or no opinion.
+    fn opinions(&self) -> Result<Vec<u32>, String> {
+        let opinion = |word: &&str| match word.parse() {
+            Ok(number) => Ok(number),
+            Err(_) if *word == NO_OPINION_WORD => Ok(NO_OPINION),
+            Err(_) => self.wrong(format!(
+                "{} is neither a number from 0 to 4294967295 nor '-', which is no opinion",
+                quoted(word)
+            )),
+        };
+        self.rest.iter().map(opinion).collect()
     }
 
     /// Exactly N numbers.
@@ -488,7 +513,7 @@ impl JobParts {
             "allowance" => words.once(&mut self.allowance, words.one()?)?,
             "round" => self.rounds.push(words.exactly()?),
             "anchor" => words.once(&mut self.anchor, words.says(words.numbers()?))?,
-            "guide" => self.guides.push(words.says(words.numbers()?)),
+            "guide" => self.guides.push(words.says(words.opinions()?)),
             "guides" => {
                 let hint = |wrong| format!("{wrong}; the line of a guide sheet is 'guide'");
                 words.once(&mut self.count, words.one().map_err(hint)?)?;
@@ -656,6 +681,18 @@ impl TextTables {
         }
     }
 
+    /// The guides, counted from 1, that have no opinion on any of so many
+    /// places.
+    pub fn without_opinions(&self, places: usize) -> Vec<usize> {
+        let numbers = self.numbers().unwrap_or_default();
+        let sheets = numbers.chunks_exact(places).enumerate().skip(1);
+        let without = |sheet: &[u32]| sheet.iter().all(|&number| number == NO_OPINION);
+        sheets
+            .filter(|(_, sheet)| without(sheet))
+            .map(|(guide, _)| guide)
+            .collect()
+    }
+
     /// The first line.
     pub fn line(&self) -> usize {
         match self {
@@ -810,23 +847,40 @@ impl fmt::Display for TextJob {
             let [w1, w2] = round.says;
             writeln!(f, "round {w1} {w2}")?;
         }
-        let table = |word: &str, numbers: &[u32]| {
-            let mut words = vec![word.to_string()];
-            words.extend(numbers.iter().map(u32::to_string));
-            words.join(" ")
-        };
-        match &job.tables {
+        write!(f, "{}", job.tables)
+    }
+}
+
+/// A guide's number as a word.
+fn opinion_word(number: u32) -> String {
+    match number {
+        NO_OPINION => NO_OPINION_WORD.into(),
+        number => number.to_string(),
+    }
+}
+
+impl fmt::Display for TextTables {
+    fn fmt(&self, f: &mut fmt::Formatter) -> fmt::Result {
+        match self {
             TextTables::Lines { anchor, guides } => {
-                writeln!(f, "{}", table("anchor", &anchor.says))?;
+                let numbers: Vec<String> = anchor.says.iter().map(u32::to_string).collect();
+                writeln!(f, "{}", table_line("anchor", numbers))?;
                 for guide in guides {
-                    writeln!(f, "{}", table("guide", &guide.says))?;
+                    let words = guide.says.iter().copied().map(opinion_word).collect();
+                    writeln!(f, "{}", table_line("guide", words))?;
                 }
+                Ok(())
             }
             TextTables::Bytes { guides, bytes } => {
                 writeln!(f, "guides {}", guides.says)?;
-                f.write_str(&pairs_text("tables", &bytes.says))?;
+                f.write_str(&pairs_text("tables", &bytes.says))
             }
         }
-        Ok(())
     }
+}
+
+/// The line of a table, its first word in front.
+fn table_line(word: &str, mut words: Vec<String>) -> String {
+    words.insert(0, word.into());
+    words.join(" ")
 }

@@ -52,6 +52,20 @@ pub fn barred_words(barred: u32, lanes: usize) -> String {
     }
 }
 
+/// Which guides have no opinion on any place; nothing is said where all have
+/// one.
+pub fn opinion_words(guides: &[usize]) -> String {
+    let named: Vec<String> = guides.iter().map(usize::to_string).collect();
+    let named = named.join(", ");
+    match guides.len() {
+        0 => String::new(),
+        1 => format!("; guide {named} has no opinion on any place: all its turns go to the anchor"),
+        _ => format!(
+            "; guides {named} have no opinion on any place: all their turns go to the anchor"
+        ),
+    }
+}
+
 /// A tail, head, start or goal that is none of the places.
 pub fn not_a_place(name: &str, place: u32, places: u32) -> String {
     let range = match places {

@@ -50,6 +50,8 @@ fn all_are_there() {
         "ramp",
         "ramp-barred",
         "yard",
+        "no-opinion",
+        "no-way-through",
     ];
     wanted.extend(floors.map(String::from));
     wanted.sort();
@@ -103,6 +105,35 @@ fn a_barred_ramp_is_not_used() {
     };
     assert_eq!(route("ramp"), "route 0 1 2 3");
     assert_eq!(route("ramp-barred"), "route 0 4 5 3");
+}
+
+/// What one example prints in a turn.
+fn turn_of(printed: &str, turn: u32) -> &str {
+    let begin = format!("turn {turn} ");
+    let line = printed.lines().find(|line| line.starts_with(&begin));
+    line.expect("a turn")
+}
+
+/// Without opinions on any place all turns are the anchor's; without one on
+/// the shed the guide leaves it, and with the greatest number it does not.
+#[test]
+fn a_guide_without_opinion_leaves_the_turn() {
+    let printed_without = read_text("no-opinion", "out");
+    assert_eq!(printed_without.matches(" table 0 ").count(), 4);
+    assert_eq!(printed_without.matches(" table ").count(), 4);
+    let shed = read_text("no-way-through", "txt");
+    assert_eq!(shed.matches(" - ").count(), 1);
+    for (number, turn) in [
+        ("-", "turn 3 table 0 place 1"),
+        ("4294967295", "turn 3 table 0 place 1"),
+        ("4294967294", "turn 3 table 1 place 1"),
+        ("0", "turn 3 table 1 place 2"),
+    ] {
+        let text = shed.replace(" - ", &format!(" {number} "));
+        let bytes = TextJob::parse(&text).expect("a text form").bytes();
+        assert_eq!(turn_of(&printed(&SecondPlanner, &bytes), 3), turn);
+        assert_eq!(turn_of(&printed(&Library, &bytes), 3), turn);
+    }
 }
 
 /// The bench program's own job is job A.

@@ -79,6 +79,57 @@ fn classes_and_barred_numbers() {
     }
 }
 
+/// No opinion is said by a word in a guide's line: it is read and written, and
+/// its number is read as well. In the anchor table the number is written.
+#[test]
+fn no_opinion_is_a_word() {
+    let most = [0xFF, 0xFF, 0xFF, 0xFF, 0x0F];
+    let whole = pairs(JOB_A_PAIRS).unwrap();
+    for (says, written, at) in [
+        ("0 - 0 0", "0 - 0 0", 1),
+        ("0 4294967295 0 0", "0 - 0 0", 1),
+        ("- 9 0 0", "- 9 0 0", 0),
+        ("0 9 0 -", "0 9 0 -", 3),
+    ] {
+        let text = JOB_A.replace("guide 0 9 0 0", &format!("guide {says}"));
+        let job = TextJob::parse(&text).unwrap();
+        let mut bytes = whole.clone();
+        let first = bytes.len() - 4 + at;
+        bytes.splice(first..=first, most);
+        assert_eq!(job.bytes(), bytes);
+        assert_eq!(remarks(&job, Taker::Bench), []);
+        let text = JOB_A.replace("guide 0 9 0 0", &format!("guide {written}"));
+        assert_eq!(format!("# Job A\n{job}"), text);
+        assert_eq!(TextJob::of_bytes(&bytes).to_string(), job.to_string());
+    }
+    // One less is a number, and so is the greatest in the anchor table.
+    let text = JOB_A.replace("guide 0 9", "guide 4294967294 -");
+    let text = text.replace("places 4", "places 5");
+    let text = text.replace("anchor 6 5 3 0", "anchor 6 5 3 0 4294967295");
+    let text = text.replace("- 0 0", "- 0 0 -");
+    let job = TextJob::parse(&text).unwrap();
+    assert_eq!(remarks(&job, Taker::Bench), []);
+    assert_eq!(format!("# Job A\n{job}"), text);
+    assert_eq!(TextJob::of_bytes(&job.bytes()).to_string(), job.to_string());
+}
+
+/// Which guides have no opinion on any place.
+#[test]
+fn guides_without_opinions() {
+    let without = |sheets: &[&str]| {
+        let lines: Vec<String> = sheets.iter().map(|says| format!("guide {says}")).collect();
+        let text = JOB_A.replace("guide 0 9 0 0", &lines.join("\n"));
+        let lines = TextJob::parse(&text).unwrap().lines().unwrap();
+        lines.tables.without_opinions(4)
+    };
+    assert_eq!(without(&[]), []);
+    assert_eq!(without(&["0 - 0 0"]), []);
+    assert_eq!(without(&["- - - 0"]), []);
+    assert_eq!(without(&["- - - -"]), [1]);
+    assert_eq!(without(&["- - - -", "0 0 0 0", "- 4294967295 - -"]), [1, 3]);
+    assert_eq!(without(&["- - - 4294967294", "- - - -"]), [2]);
+}
+
 /// Costs up to 16,000,000 stand in a lane's line, and are planned.
 #[test]
 fn costs_of_a_yard() {
@@ -298,6 +349,51 @@ fn a_line_that_bytes_cannot_say_is_told() {
             3,
             "plan 04 00",
             "line 3: 'plan' stands in place of 'places' and 'lane'",
+        ),
+        (
+            13,
+            "anchor 6 - 3 0",
+            "line 13: '-' means that a guide has no opinion; the anchor table has a number for \
+             every place",
+        ),
+        (
+            8,
+            "goal -",
+            "line 8: '-' means that a guide has no opinion; it stands in the line of a guide \
+             sheet alone",
+        ),
+        (
+            4,
+            "lane 0 2 - 0",
+            "line 4: '-' means that a guide has no opinion; it stands in the line of a guide \
+             sheet alone",
+        ),
+        (
+            14,
+            "guide 0 9 -- 0",
+            "line 14: '--' is neither a number from 0 to 4294967295 nor '-', which is no opinion",
+        ),
+        (
+            14,
+            "guide 0 9 4294967296 0",
+            "line 14: '4294967296' is neither a number from 0 to 4294967295 nor '-', which is no \
+             opinion",
+        ),
+        (
+            14,
+            "guide 0 - -",
+            "line 14: guide 1 has 3 numbers, and the plan has 4 places",
+        ),
+        (
+            14,
+            "guide 0 9\n- 0",
+            "line 15: '-' begins no line; a table stands on one line",
+        ),
+        (
+            14,
+            "guides - - - -",
+            "line 14: '-' means that a guide has no opinion; it stands in the line of a guide \
+             sheet alone; the line of a guide sheet is 'guide'",
         ),
         (7, "", "there is no line 'start PLACE'"),
         (8, "", "there is no line 'goal PLACE'"),

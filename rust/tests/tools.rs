@@ -324,6 +324,8 @@ fn help_is_printed() {
         for command in ["run", "check", "print", "bytes", "hex", "text", "describe"] {
             assert!(left.out.contains(&format!(" job {command} ")), "{command}");
         }
+        let word = "In a text the word - in the line of a guide sheet";
+        assert!(left.out.contains(word), "{}", left.out);
         // The second planner is named where it is used.
         let print = left.out.lines().find(|line| line.contains(" job print "));
         assert!(print.is_some_and(|line| line.contains("second planner")));
@@ -397,6 +399,24 @@ fn check_says_that_all_is_well() {
             job(&["check"], read(&format!("{name}.txt"))),
             left(0, &words, "")
         );
+    }
+    let places = "nothing is wrong: 4 places, 4 lanes, ";
+    for (sheets, words) in [
+        ("guide - 9 - -", "1 guide, 2 rounds\n"),
+        (
+            "guide - - - -",
+            "1 guide, 2 rounds; guide 1 has no opinion on any place: all its turns go to the \
+             anchor\n",
+        ),
+        (
+            "guide - - - -\nguide 0 - - -\nguide - - - -",
+            "3 guides, 2 rounds; guides 1, 3 have no opinion on any place: all their turns go to \
+             the anchor\n",
+        ),
+    ] {
+        let text = with("job-a.txt", "guide 0 9 0 0", sheets);
+        let words = format!("{places}{words}");
+        assert_eq!(job(&["check"], text), left(0, &words, ""));
     }
     for (barred, words) in [
         ("128", "; class 7 is barred, 0 lanes\n"),
@@ -486,6 +506,30 @@ fn a_barred_class_is_kept_off() {
     assert_eq!(refused, left(3, "refused 15 at 9\n", words));
 }
 
+/// No opinion is a word in a guide's line, and is told anywhere else.
+#[test]
+fn a_place_without_opinion() {
+    for name in ["no-opinion", "no-way-through"] {
+        let text = read(&format!("{name}.txt"));
+        let out = read(&format!("{name}.out"));
+        assert_eq!(job(&["run"], &text), left(0, &out, ""));
+        let printed = job(&["text"], job(&["hex"], &text).out);
+        let lines = text.lines().filter(|line| !line.starts_with('#'));
+        let lines: String = lines.map(|line| format!("{line}\n")).collect();
+        assert_eq!(printed, left(0, &lines, ""));
+    }
+    let text = with("job-a.txt", "anchor 6 5 3 0", "anchor 6 - 3 0");
+    let words = "standard input: line 14: '-' means that a guide has no opinion; the anchor table \
+                 has a number for every place\n";
+    for command in ["run", "check", "bytes"] {
+        assert_eq!(job(&[command], &text), left(4, "", words));
+    }
+    let text = "places 2\nlane 0 1 - 0\n";
+    let words = "standard input: line 2: '-' means that a guide has no opinion; it stands in the \
+                 line of a guide sheet alone\n";
+    assert_eq!(plan(&[], text), left(4, "", words));
+}
+
 /// Costs go to 16,000,000, and one above is told in words.
 #[test]
 fn a_cost_above_the_limit() {
@@ -528,6 +572,8 @@ fn the_exit_status_tells_the_ending() {
         ("ramp", 0),
         ("ramp-barred", 0),
         ("yard", 0),
+        ("no-opinion", 0),
+        ("no-way-through", 0),
         ("no-route", 1),
         ("refusal-01", 3),
         ("refusal-13", 3),

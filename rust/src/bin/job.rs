@@ -14,7 +14,7 @@ use secondcoop_tests::refusals::{position_words, refusal_words, remarks, Taker};
 use secondcoop_tests::run;
 use secondcoop_tests::text::{pairs_text, Line, TextJob};
 use secondcoop_tests::tool::{self, Done, NOTHING_DONE, NO_ROUTE, REFUSED, UNFINISHED};
-use secondcoop_tests::words::{barred_words, classes_of, count, quoted};
+use secondcoop_tests::words::{barred_words, classes_of, count, opinion_words, quoted};
 
 const USAGE: &str = "\
 usage: job run FILE         plans the job with the proved library; prints its turns, then the
@@ -27,6 +27,9 @@ usage: job run FILE         plans the job with the proved library; prints its tu
        job describe NUMBER  a refusal in plain words
 FILE is a job as text, as hexadecimal pairs or as bytes; - is standard input, and so is no FILE
 where nobody types.
+In a text the word - in the line of a guide sheet stands where that guide has no opinion on the
+place, which is the number 4294967295 there; it never expands such a place, and a turn for which
+it has no place goes to the anchor. The anchor table has a number for every place.
 The bench program takes up to 256 places, 2048 lanes and 32768 bytes; run, check and print take
 what the planner call takes, up to 4096 places and 32768 lanes.
 Exit status: 0 a route, or done; 1 no route; 2 unfinished; 3 refused, with the reason in plain
@@ -118,9 +121,11 @@ impl Read {
         let barred = lines.barred.says;
         let is_barred = |lane: &&Line<[u32; 4]>| classes_of(barred).contains(&lane.says[3]);
         let barred = barred_words(barred, plan.lanes.iter().filter(is_barred).count());
+        let places = plan.places.says as usize;
+        let opinions = opinion_words(&lines.tables.without_opinions(places));
         format!(
-            "nothing is wrong: {}, {}, {}, {rounds}{barred}{size}\n",
-            count(plan.places.says as usize, "place"),
+            "nothing is wrong: {}, {}, {}, {rounds}{barred}{opinions}{size}\n",
+            count(places, "place"),
             count(plan.lanes.len(), "lane"),
             count(lines.tables.guide_count().says, "guide"),
         )
