@@ -350,51 +350,6 @@ fn a_line_that_bytes_cannot_say_is_told() {
             "plan 04 00",
             "line 3: 'plan' stands in place of 'places' and 'lane'",
         ),
-        (
-            13,
-            "anchor 6 - 3 0",
-            "line 13: '-' means that a guide has no opinion; the anchor table has a number for \
-             every place",
-        ),
-        (
-            8,
-            "goal -",
-            "line 8: '-' means that a guide has no opinion; it stands in the line of a guide \
-             sheet alone",
-        ),
-        (
-            4,
-            "lane 0 2 - 0",
-            "line 4: '-' means that a guide has no opinion; it stands in the line of a guide \
-             sheet alone",
-        ),
-        (
-            14,
-            "guide 0 9 -- 0",
-            "line 14: '--' is neither a number from 0 to 4294967295 nor '-', which is no opinion",
-        ),
-        (
-            14,
-            "guide 0 9 4294967296 0",
-            "line 14: '4294967296' is neither a number from 0 to 4294967295 nor '-', which is no \
-             opinion",
-        ),
-        (
-            14,
-            "guide 0 - -",
-            "line 14: guide 1 has 3 numbers, and the plan has 4 places",
-        ),
-        (
-            14,
-            "guide 0 9\n- 0",
-            "line 15: '-' begins no line; a table stands on one line",
-        ),
-        (
-            14,
-            "guides - - - -",
-            "line 14: '-' means that a guide has no opinion; it stands in the line of a guide \
-             sheet alone; the line of a guide sheet is 'guide'",
-        ),
         (7, "", "there is no line 'start PLACE'"),
         (8, "", "there is no line 'goal PLACE'"),
         (10, "", "there is no line 'allowance TURNS'"),
@@ -459,6 +414,39 @@ fn a_line_that_bytes_cannot_say_is_told() {
     assert_eq!(
         PlanLines::parse("places 1\nstart 0").unwrap_err(),
         "line 2: 'start' is not 'places' or 'lane'"
+    );
+}
+
+/// The word for no opinion stands nowhere but in a guide's line.
+#[test]
+fn no_opinion_elsewhere_is_told() {
+    let wrong = |line: usize, other: &str| TextJob::parse(&with(line, other)).unwrap_err();
+    let means = "'-' means that a guide has no opinion;";
+    let alone = "it stands in the line of a guide sheet alone";
+    assert_eq!(
+        wrong(13, "anchor 6 - 3 0"),
+        format!("line 13: {means} the anchor table has a number for every place")
+    );
+    for (line, other) in [(8, "goal -"), (4, "lane 0 2 - 0"), (9, "barred -")] {
+        let words = format!("line {line}: {means} {alone}");
+        assert_eq!(wrong(line, other), words);
+    }
+    assert_eq!(
+        wrong(14, "guides - - - -"),
+        format!("line 14: {means} {alone}; the line of a guide sheet is 'guide'")
+    );
+    for word in ["--", "-1", "x", "4294967296"] {
+        let neither = "is neither a number from 0 to 4294967295 nor '-', which is no opinion";
+        let other = format!("guide 0 9 {word} 0");
+        assert_eq!(wrong(14, &other), format!("line 14: '{word}' {neither}"));
+    }
+    assert_eq!(
+        wrong(14, "guide 0 - -"),
+        "line 14: guide 1 has 3 numbers, and the plan has 4 places"
+    );
+    assert_eq!(
+        wrong(14, "guide 0 9\n- 0"),
+        "line 15: '-' begins no line; a table stands on one line"
     );
 }
 

@@ -1,8 +1,10 @@
 //! The paper's cases, on the library and on the second planner, word for
 //! word.
 
-use secondcoop_tests::generate;
-use secondcoop_tests::planner::{Answer, Memory, Request, NONE, UNREACHED};
+use secondcoop_tests::generate::{self, Plan};
+use secondcoop_tests::planner::{
+    Answer, Memory, Request, MOST_OPINION, NONE, NO_OPINION, UNREACHED,
+};
 use secondcoop_tests::planners::{Library, Planner, SecondPlanner};
 
 /// Plan A of the paper.
@@ -159,6 +161,207 @@ fn job_a_unfinished() {
         assert_eq!(lent.wide[..2], [0, UNREACHED]);
         assert_eq!(lent.wide[2..8], [UNREACHED; 6]);
         assert_eq!(lent.wide[8..], [80, 80]);
+    });
+}
+
+/// Job A with another guide sheet.
+fn job_a_by(planner: &dyn Planner, guides: &[u32], budget: u32) -> (Answer, Lent) {
+    let request = Request {
+        guides,
+        budget,
+        ..JOB_A
+    };
+    plan(planner, &request)
+}
+
+/// Job A without an opinion on any vertex: the anchor expands 0, then 2, whose
+/// key 400 + 200·3 is below 100 + 200·5 at 1; 7 ≤ 2·7 finishes round one. In
+/// round two 1 and then 2 have the key 600, and 6 ≤ 6 finishes it.
+#[test]
+fn job_a_without_opinions() {
+    on_both(|planner| {
+        for budget in [4, 5, 100, u32::MAX] {
+            let (answer, lent) = job_a_by(planner, &[NO_OPINION; 4], budget);
+            assert_eq!(answer, job_a(planner, budget).0);
+            assert_eq!(lent.route, [0, 1, 2, 3, 77, 77]);
+            assert_eq!(lent.log, [0, 2, 1, 2, 78, 78]);
+            assert_eq!(lent.work[17..], [NONE, 0, 0, 2, 1, 2, 2, 4, 79, 79]);
+            assert_eq!(lent.wide, [0, 0, 1, 1, 3, 3, 6, UNREACHED, 80, 80]);
+        }
+        let route = |turns| Answer::Route {
+            cost: 7,
+            length: 3,
+            rounds: 1,
+            turns,
+            bound: 40_000,
+        };
+        let (answer, lent) = job_a_by(planner, &[NO_OPINION; 4], 3);
+        assert_eq!(answer, route(3));
+        assert_eq!(lent.route, [0, 2, 3, NONE, 77, 77]);
+        assert_eq!(lent.log, [0, 2, 1, 78, 78, 78]);
+        assert_eq!(lent.work[17..], [NONE, 0, 0, 2, 1, 4, 2, 4, 79, 79]);
+        assert_eq!(lent.wide, [0, 0, 1, 1, 3, 4, 7, UNREACHED, 80, 80]);
+        let (answer, lent) = job_a_by(planner, &[NO_OPINION; 4], 2);
+        assert_eq!(answer, route(2));
+        assert_eq!(lent.route, [0, 2, 3, NONE, 77, 77]);
+        assert_eq!(lent.log, [0, 2, 78, 78, 78, 78]);
+        assert_eq!(lent.work[17..], [NONE, 0, 0, 4, 0, 0, 2, 4, 79, 79]);
+    });
+}
+
+#[test]
+fn job_a_without_opinions_unfinished() {
+    on_both(|planner| {
+        let (answer, lent) = job_a_by(planner, &[NO_OPINION; 4], 1);
+        assert_eq!(answer, Answer::Unfinished { turns: 1 });
+        assert_eq!(lent.route, [77; 6]);
+        assert_eq!(lent.log, [0, 78, 78, 78, 78, 78]);
+        assert_eq!(lent.work[17..], [NONE, 2, 0, 4, 0, 4, NONE, 0, 79, 79]);
+        let (answer, lent) = job_a_by(planner, &[NO_OPINION; 4], 0);
+        assert_eq!(answer, Answer::Unfinished { turns: 0 });
+        assert_eq!(lent.log, [78; 6]);
+    });
+}
+
+/// Job A's guide takes 2 in its second turn. Without an opinion there it takes
+/// 1, whose key 100 + 200·9 is within 2·1000; then no vertex is left to it,
+/// and the anchor takes 2. Round two is finished at once.
+#[test]
+fn job_a_without_an_opinion_on_one_vertex() {
+    on_both(|planner| {
+        let sheet = [0, 9, NO_OPINION, 0];
+        for budget in [3, 4, 100, u32::MAX] {
+            let (answer, lent) = job_a_by(planner, &sheet, budget);
+            let expected = Answer::Route {
+                cost: 6,
+                length: 4,
+                rounds: 2,
+                turns: 3,
+                bound: 10_000,
+            };
+            assert_eq!(answer, expected);
+            assert_eq!(lent.route, [0, 1, 2, 3, 77, 77]);
+            assert_eq!(lent.log, [65_536, 65_537, 2, 78, 78, 78]);
+            assert_eq!(lent.work[17..], [NONE, 0, 0, 0, 1, 0, 2, 4, 79, 79]);
+            assert_eq!(lent.wide, [0, 0, 1, 1, 3, 3, 6, UNREACHED, 80, 80]);
+        }
+        let (answer, lent) = job_a_by(planner, &sheet, 2);
+        assert_eq!(answer, Answer::Unfinished { turns: 2 });
+        assert_eq!(lent.log, [65_536, 65_537, 78, 78, 78, 78]);
+        assert_eq!(lent.work[17..], [NONE, 1, 0, 1, 1, 4, NONE, 0, 79, 79]);
+        assert_eq!(job_a_by(planner, &sheet, 1).0, job_a(planner, 1).0);
+    });
+}
+
+/// The log of a call over three edges at 16,000,000, one after another.
+fn log_along_three(planner: &dyn Planner, guides: &[u32]) -> [u32; 3] {
+    let bytes = Plan {
+        vertices: 4,
+        tails: vec![0, 1, 2],
+        heads: vec![1, 2, 3],
+        costs: vec![16_000_000; 3],
+        classes: vec![0; 3],
+    }
+    .bytes();
+    let request = Request {
+        bytes: &bytes,
+        anchor: &[48_000_000, 32_000_000, 16_000_000, 0],
+        guides,
+        guide_count: guides.len() as u32 / 4,
+        schedule: &[100, 10_000],
+        ..JOB_A
+    };
+    let (answer, lent) = plan(planner, &request);
+    let expected = Answer::Route {
+        cost: 48_000_000,
+        length: 4,
+        rounds: 1,
+        turns: 3,
+        bound: 1_000_000,
+    };
+    assert_eq!(answer, expected);
+    let [first, second, third, ..] = lent.log;
+    [first, second, third]
+}
+
+/// 4,294,967,294 is within 100 times 48,000,000, so a guide expands vertices
+/// at it; without an opinion the anchor does, and then the next guide has the
+/// turn.
+#[test]
+fn the_greatest_opinion_is_a_number() {
+    let (most, none) = (MOST_OPINION, NO_OPINION);
+    on_both(|planner| {
+        let log = |guides: &[u32]| log_along_three(planner, guides);
+        assert_eq!(log(&[most; 4]), [65_536, 65_537, 65_538]);
+        assert_eq!(log(&[none; 4]), [0, 1, 2]);
+        assert_eq!(log(&[most, none, most, most]), [65_536, 1, 65_538]);
+        assert_eq!(log(&[none, most, most, none]), [0, 65_537, 65_538]);
+        assert_eq!(log(&[most, most, none, most]), [65_536, 65_537, 2]);
+        assert_eq!(log(&[none; 8]), [0, 1, 2]);
+        // Two guides: one's number is nothing to the other.
+        let second = [most, most, most, most, most, none, most, most];
+        assert_eq!(log(&second), [65_536, 1, 65_538]);
+        let both = [none, most, most, most, none, most, none, most];
+        assert_eq!(log(&both), [0, 131_073, 65_538]);
+    });
+}
+
+/// In the anchor table 4,294,967,295 is a number: the anchor expands vertex 1,
+/// from which no walk leads to the goal, and the edge 0 → 2 is barred.
+#[test]
+fn the_anchor_has_numbers_alone() {
+    let bytes = [3, 2, 0, 1, 1, 0, 0, 2, 5, 1];
+    let (most, none) = (MOST_OPINION, NO_OPINION);
+    on_both(|planner| {
+        for (guides, log) in [
+            (&[][..], [0, 1]),
+            (&[none; 3], [0, 1]),
+            (&[0, none, 0], [65_536, 1]),
+            (&[0, most, 0], [65_536, 65_537]),
+            (&[none, most, 0], [0, 65_537]),
+        ] {
+            let request = Request {
+                bytes: &bytes,
+                goal: 2,
+                barred: 0b10,
+                anchor: &[5, NONE, 0],
+                guides,
+                guide_count: guides.len() as u32 / 3,
+                schedule: &[100, 100],
+                ..JOB_A
+            };
+            let (answer, lent) = plan(planner, &request);
+            assert_eq!(answer, Answer::NoRoute { turns: 2 });
+            assert_eq!(lent.log[..3], [log[0], log[1], 78], "{guides:?}");
+        }
+    });
+}
+
+/// The smallest job in which the number tells: no edges, and m is 100 times
+/// the anchor's number at the start.
+#[test]
+fn the_number_of_no_opinion_is_exact() {
+    on_both(|planner| {
+        for (anchor, sheet, log) in [
+            (NONE, NO_OPINION, 0),
+            (NONE, MOST_OPINION, 65_536),
+            (NONE - 1, MOST_OPINION, 65_536),
+            (NONE - 1, NO_OPINION, 0),
+            (0, NO_OPINION, 0),
+            (0, 0, 65_536),
+        ] {
+            let request = Request {
+                bytes: &[2, 0],
+                goal: 1,
+                anchor: &[anchor, 0],
+                guides: &[sheet, 0],
+                schedule: &[100, 100],
+                ..JOB_A
+            };
+            let (answer, lent) = plan(planner, &request);
+            assert_eq!(answer, Answer::NoRoute { turns: 1 });
+            assert_eq!(lent.log[..2], [log, 78], "{anchor} {sheet}");
+        }
     });
 }
 
@@ -631,6 +834,21 @@ fn the_bench_program_with_other_budgets() {
         );
         assert_eq!(with_budget(0), "unfinished turns 0\n");
     });
+}
+
+/// No opinion in a bench job: five groups.
+#[test]
+fn the_bench_program_without_opinions() {
+    let mut bytes = job_a_bytes();
+    bytes.truncate(bytes.len() - 4);
+    bytes.extend([0xFF, 0xFF, 0xFF, 0xFF, 0x0F].repeat(4));
+    let text = "turn 1 table 0 place 0\n\
+                turn 2 table 0 place 2\n\
+                turn 3 table 0 place 1\n\
+                turn 4 table 0 place 2\n\
+                route 0 1 2 3\n\
+                end cost 6 rounds 2 turns 4 bound 10000\n";
+    on_both(|planner| assert_eq!(printed(planner, &bytes), text));
 }
 
 #[test]

@@ -238,6 +238,40 @@ fn demand_3_and_dijkstra_beyond_32_bits() {
     }
 }
 
+/// The same at every rate of opinions on the guide sheets, from all to none.
+#[test]
+fn demand_3_and_dijkstra_at_every_rate_of_opinions() {
+    for planner in BOTH {
+        let mut random = Random::new(39);
+        let mut met = Met::default();
+        for (index, hundredths) in (0..2_200).map(|index| (index, index as u64 % 11 * 10)) {
+            let (plan, mut job) = match index % 4 {
+                0 => jobs::far_job(&mut random),
+                1 => jobs::twisted_job(&mut random),
+                2 => jobs::steep_job(&mut random),
+                _ => jobs::detour_job(&mut random),
+            };
+            jobs::take_opinions(&mut random, &mut job, hundredths);
+            if random.one_in(2) {
+                let last = job.schedule.len() - 2;
+                job.schedule[last..].fill(100);
+            }
+            check(planner, &plan, &job, &mut met);
+            for end in jobs::ends_of_rounds(&job) {
+                job.budget = random.range32(0, end);
+                check(planner, &plan, &job, &mut met);
+            }
+        }
+        println!(
+            "{} routes, {} of them after a finished 100/100 round, {} without a route, {} \
+             unfinished, {} vertices twice in a round",
+            met.routes, met.optimal_rounds, met.no_routes, met.unfinished, met.twice
+        );
+        assert!(met.routes >= 2_500 && met.unfinished >= 2_000);
+        assert!(met.no_routes >= 800 && met.optimal_rounds >= 500);
+    }
+}
+
 /// With budget enough, no route exactly where there is none.
 #[test]
 fn no_route_exactly_where_there_is_none() {

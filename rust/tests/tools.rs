@@ -324,8 +324,6 @@ fn help_is_printed() {
         for command in ["run", "check", "print", "bytes", "hex", "text", "describe"] {
             assert!(left.out.contains(&format!(" job {command} ")), "{command}");
         }
-        let word = "In a text the word - in the line of a guide sheet";
-        assert!(left.out.contains(word), "{}", left.out);
         // The second planner is named where it is used.
         let print = left.out.lines().find(|line| line.contains(" job print "));
         assert!(print.is_some_and(|line| line.contains("second planner")));
@@ -399,24 +397,6 @@ fn check_says_that_all_is_well() {
             job(&["check"], read(&format!("{name}.txt"))),
             left(0, &words, "")
         );
-    }
-    let places = "nothing is wrong: 4 places, 4 lanes, ";
-    for (sheets, words) in [
-        ("guide - 9 - -", "1 guide, 2 rounds\n"),
-        (
-            "guide - - - -",
-            "1 guide, 2 rounds; guide 1 has no opinion on any place: all its turns go to the \
-             anchor\n",
-        ),
-        (
-            "guide - - - -\nguide 0 - - -\nguide - - - -",
-            "3 guides, 2 rounds; guides 1, 3 have no opinion on any place: all their turns go to \
-             the anchor\n",
-        ),
-    ] {
-        let text = with("job-a.txt", "guide 0 9 0 0", sheets);
-        let words = format!("{places}{words}");
-        assert_eq!(job(&["check"], text), left(0, &words, ""));
     }
     for (barred, words) in [
         ("128", "; class 7 is barred, 0 lanes\n"),
@@ -528,6 +508,30 @@ fn a_place_without_opinion() {
     let words = "standard input: line 2: '-' means that a guide has no opinion; it stands in the \
                  line of a guide sheet alone\n";
     assert_eq!(plan(&[], text), left(4, "", words));
+    let help = job(&["--help"], "").out;
+    let word = "In a text the word - in the line of a guide sheet";
+    assert!(help.contains(word), "{help}");
+}
+
+#[test]
+fn check_names_guides_without_opinions() {
+    for (sheets, words) in [
+        ("guide - 9 - -", "1 guide, 2 rounds\n"),
+        (
+            "guide - - - -",
+            "1 guide, 2 rounds; guide 1 has no opinion on any place: all its turns go to the \
+             anchor\n",
+        ),
+        (
+            "guide - - - -\nguide 0 - - -\nguide - - - -",
+            "3 guides, 2 rounds; guides 1, 3 have no opinion on any place: all their turns go to \
+             the anchor\n",
+        ),
+    ] {
+        let text = with("job-a.txt", "guide 0 9 0 0", sheets);
+        let words = format!("nothing is wrong: 4 places, 4 lanes, {words}");
+        assert_eq!(job(&["check"], text), left(0, &words, ""));
+    }
 }
 
 /// Costs go to 16,000,000, and one above is told in words.
