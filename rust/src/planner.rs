@@ -247,6 +247,9 @@ pub enum Fault {
     OpinionInverted,
     /// The anchor has no opinion either where its table has the number.
     OpinionOfAnchor,
+    /// The anchor leaves out what the guide whose turn it fills has no opinion
+    /// on, if another vertex is open.
+    OpinionForAnchor,
     /// 4,294,967,294 means no opinion too.
     OpinionOneLessToo,
     /// 4,294,967,294 means no opinion, and 4,294,967,295 is a number.
@@ -270,7 +273,7 @@ pub enum Fault {
 }
 
 /// All faults.
-pub const FAULTS: [Fault; 42] = [
+pub const FAULTS: [Fault; 43] = [
     Fault::CostOfGoal,
     Fault::OpenAgain,
     Fault::Forgotten,
@@ -304,6 +307,7 @@ pub const FAULTS: [Fault; 42] = [
     Fault::OpinionTaken,
     Fault::OpinionInverted,
     Fault::OpinionOfAnchor,
+    Fault::OpinionForAnchor,
     Fault::OpinionOneLessToo,
     Fault::OpinionOneLess,
     Fault::OpinionOfAnyGuide,
@@ -672,6 +676,17 @@ impl<O: Onlooker> Search<'_, O> {
         self.least(self.anchor, w1, 0, counts)
     }
 
+    /// The vertex that the anchor fills a guide's turn with is that of its
+    /// least key; a faulty planner leaves some out.
+    fn filled(&self, guide: usize, anchor_choice: usize, w1: u64) -> usize {
+        if self.guide_count == 0 || !self.onlooker.has(Fault::OpinionForAnchor) {
+            return anchor_choice;
+        }
+        let counts = |vertex: usize, _: u32| self.guide(guide)[vertex] != NO_OPINION;
+        let line = self.least(self.anchor, w1, 0, counts);
+        line.map_or(anchor_choice, |(_, vertex)| vertex)
+    }
+
     /// The least key of the guide with the turn over the vertices that it has
     /// an opinion on, and its vertex.
     fn guide_line(&self, guide: usize, w1: u64) -> Option<(u64, usize)> {
@@ -820,8 +835,10 @@ impl<O: Onlooker> Search<'_, O> {
             if no_line && self.onlooker.has(Fault::NothingExpanded) {
                 return Some(End::NoRoute);
             }
-            let choice = line.filter(|&(key, _)| self.is_within(key, m, factors));
-            let (table, vertex) = choice.map_or((0, anchor_choice), |(_, vertex)| (guide, vertex));
+            let (table, vertex) = match line.filter(|line| self.is_within(line.0, m, factors)) {
+                Some((_, vertex)) => (guide, vertex),
+                None => (0, self.filled(guide, anchor_choice, factors.w1)),
+            };
             self.take_turn(round, table, vertex, no_line);
             guide = self.guide_after(guide, table);
             self.next_guide = guide;

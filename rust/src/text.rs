@@ -685,7 +685,7 @@ impl TextTables {
     /// places.
     pub fn without_opinions(&self, places: usize) -> Vec<usize> {
         let numbers = self.numbers().unwrap_or_default();
-        let sheets = numbers.chunks_exact(places).enumerate().skip(1);
+        let sheets = numbers.chunks_exact(places.max(1)).enumerate().skip(1);
         let without = |sheet: &[u32]| sheet.iter().all(|&number| number == NO_OPINION);
         sheets
             .filter(|(_, sheet)| without(sheet))

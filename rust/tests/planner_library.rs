@@ -76,7 +76,7 @@ fn seeded_jobs_are_planned_alike() {
 fn every_budget_is_spent_alike() {
     let mut comparison = Comparison::new(&Library, &SecondPlanner);
     let mut events = Events::default();
-    jobs::every_budget(seed(72), 5_000, &mut |_, job| {
+    jobs::every_budget(seed(72), 6_000, &mut |_, job| {
         comparison.job(job, None);
         events.count(job);
     });

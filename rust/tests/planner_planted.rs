@@ -720,8 +720,9 @@ impl Seeded {
     fn new() -> Seeded {
         let (mut list, mut texts) = (Vec::new(), Vec::new());
         jobs::valid_jobs(51, 9_000, &mut |_, job| list.push(job.clone()));
-        jobs::long_jobs(54, 30, &mut |_, job| list.push(job.clone()));
         jobs::damaged_jobs(52, 21_000, &mut |job, _| list.push(job.clone()));
+        // Long paths take longer: last.
+        jobs::long_jobs(54, 30, &mut |_, job| list.push(job.clone()));
         jobs::bench_jobs(53, 2_000, &mut |bytes, _| texts.push(bytes.to_vec()));
         Seeded { jobs: list, texts }
     }

@@ -61,7 +61,7 @@ enum Sheets {
     /// number everywhere, 0 everywhere.
     Hostile,
     /// As sensible ones, without opinion on every second vertex or so.
-    HalfOpinions,
+    Halved,
 }
 
 /// A job across a floor: eight guides, the house schedule, an anchor table
@@ -84,8 +84,8 @@ fn job(seed: u64, width: u32, height: u32, sheets: Sheets) -> Job {
             (Sheets::Hostile, 1) => random.range32(0, farthest / 10),
             (Sheets::Hostile, 2) => MOST_OPINION,
             (Sheets::Hostile, _) => 0,
-            (Sheets::HalfOpinions, _) if random.one_in(2) => NO_OPINION,
-            (Sheets::HalfOpinions, _) => d * random.range32(80, 130) / 100,
+            (Sheets::Halved, _) if random.one_in(2) => NO_OPINION,
+            (Sheets::Halved, _) => d * random.range32(80, 130) / 100,
         };
         guides.extend(distances.iter().copied().map(sheet));
     }
@@ -214,7 +214,8 @@ fn compare_text(name: &str, job: &Job) {
 fn main() {
     println!(
         "Whole calls on floors with eight edges at each vertex, eight guides, house schedule, \
-         nothing barred but in the last rows, which bar the class of one edge in twenty: \
+         nothing barred but in the last rows, which bar the class of one edge in twenty; halved \
+         sheets are sensible ones without opinion on every second vertex or so: \
          processor time, medians of {RUNS} alternating runs in the same memory, library / second \
          planner."
     );
@@ -229,7 +230,7 @@ fn main() {
     for (name, sheets) in [
         ("sensible", Sheets::Sensible),
         ("hostile", Sheets::Hostile),
-        ("half", Sheets::HalfOpinions),
+        ("halved", Sheets::Halved),
     ] {
         let sizes = [(16, 16), (32, 16), (32, 32), (64, 32), (64, 64)];
         let turns = sizes.map(|(width, height)| {
