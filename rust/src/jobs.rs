@@ -171,9 +171,9 @@ fn narrowed(distance: u64) -> u32 {
     u32::try_from(distance).unwrap_or(u32::MAX)
 }
 
-/// A guide sheet of any sort, hostile ones included. Of the anchor table's
-/// numbers one may mean no opinion on a sheet; otherwise a sheet is without
-/// opinion, if anywhere, where no walk leads to the goal.
+/// A guide sheet of any sort, hostile ones included. It is without opinion, if
+/// anywhere, where no walk leads to the goal, or where it is the anchor table
+/// and has its greatest number, which means no opinion on a sheet alone.
 pub fn random_sheet(random: &mut Random, plan: &Plan, goal: u32, anchor: &[u32]) -> Vec<u32> {
     let vertices = plan.vertices as usize;
     let most = random.pick(&[1, 3, 20, 1_000, MOST_OPINION]);
@@ -816,8 +816,8 @@ fn long_job(random: &mut Random) -> (Plan, Job) {
 }
 
 /// A job along a path twice as long, with cheaper ways beside some edges near
-/// its front, over vertices of their own. The guide keeps off these, without
-/// opinion or with the greatest number, and later rounds find them.
+/// its front, over vertices of their own. The guide has no opinion on these,
+/// or the greatest number, and later rounds find them.
 fn gated_job(random: &mut Random) -> (Plan, Job) {
     let way = random.range32(560, 640);
     let gates = random.range32(1, 3);

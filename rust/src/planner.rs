@@ -509,7 +509,7 @@ impl<O: Onlooker> Search<'_, O> {
         let both = self.vertices.iter().zip(self.wide.iter());
         for (vertex, ((&[_, marks], &[g, _]), &h)) in both.zip(table).enumerate() {
             if marks & (OPEN | without) == OPEN && counts(vertex, h) {
-                let key = 100 * self.key_cost(g) + w1 * self.key_number(h);
+                let key = 100 * self.key_cost(g) + w1 * u64::from(h);
                 if key < least || key == least && self.onlooker.has(Fault::HighestVertex) {
                     (least, lowest) = (key, Some(vertex));
                 }
@@ -523,14 +523,6 @@ impl<O: Onlooker> Search<'_, O> {
         match self.onlooker.has(Fault::NarrowKey) {
             true => u64::from(g as u32),
             false => g,
-        }
-    }
-
-    /// What a key takes for a table's number.
-    fn key_number(&self, h: u32) -> u64 {
-        match self.onlooker.has(Fault::OpinionOfZero) && h == NO_OPINION {
-            true => 0,
-            false => u64::from(h),
         }
     }
 
@@ -672,8 +664,7 @@ impl<O: Onlooker> Search<'_, O> {
     /// one.
     fn anchor_line(&self, w1: u64) -> Option<(u64, usize)> {
         let none = self.onlooker.has(Fault::OpinionOfAnchor);
-        let counts = |_: usize, h: u32| h != NO_OPINION || !none;
-        self.least(self.anchor, w1, 0, counts)
+        self.least(self.anchor, w1, 0, |_, h| h != NO_OPINION || !none)
     }
 
     /// The vertex that the anchor fills a guide's turn with is that of its
@@ -682,8 +673,8 @@ impl<O: Onlooker> Search<'_, O> {
         if self.guide_count == 0 || !self.onlooker.has(Fault::OpinionForAnchor) {
             return anchor_choice;
         }
-        let counts = |vertex: usize, _: u32| self.guide(guide)[vertex] != NO_OPINION;
-        let line = self.least(self.anchor, w1, 0, counts);
+        let sheet = self.guide(guide);
+        let line = self.least(self.anchor, w1, 0, |vertex, _| sheet[vertex] != NO_OPINION);
         line.map_or(anchor_choice, |(_, vertex)| vertex)
     }
 
@@ -697,10 +688,14 @@ impl<O: Onlooker> Search<'_, O> {
             true => 0,
             false => GUIDE_MARK,
         };
+        let sheet = self.guide(guide);
+        if self.onlooker.has(Fault::OpinionOfZero) {
+            let zeros: Vec<u32> = sheet.iter().map(|&h| h % NO_OPINION).collect();
+            return self.least(&zeros, w1, without, |_, _| true);
+        }
         let counts = |vertex, h| self.has_opinion(guide, vertex, h);
-        let line = self.least(self.guide(guide), w1, without, counts)?;
-        let refused =
-            self.onlooker.has(Fault::OpinionAfterKey) && self.guide(guide)[line.1] == NO_OPINION;
+        let line = self.least(sheet, w1, without, counts)?;
+        let refused = self.onlooker.has(Fault::OpinionAfterKey) && sheet[line.1] == NO_OPINION;
         (!refused).then_some(line)
     }
 
@@ -709,7 +704,6 @@ impl<O: Onlooker> Search<'_, O> {
         let has = |fault| self.onlooker.has(fault);
         let number = has(Fault::OpinionTaken)
             || has(Fault::OpinionAfterKey)
-            || has(Fault::OpinionOfZero)
             || has(Fault::OpinionOneLess)
             || has(Fault::OpinionOfFirstGuide) && guide > 1
             || has(Fault::OpinionOnStart) && vertex == self.start
