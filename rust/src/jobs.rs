@@ -86,7 +86,7 @@ impl Job {
             work: &mut vec![0; self.work_room],
             wide: &mut vec![0; self.wide_room],
         };
-        let answer = planner::plan_observed(&self.request(), memory, None, &mut |event| {
+        let answer = planner::plan_observed_closely(&self.request(), memory, &mut |event| {
             events.push(event)
         });
         (answer, events)

@@ -325,8 +325,13 @@ trait Onlooker {
         false
     }
 
-    /// Whether events are looked at.
-    fn looks(&self) -> bool {
+    /// Whether there is a fault.
+    fn is_faulty(&self) -> bool {
+        false
+    }
+
+    /// Whether events are told that take a scan of their own.
+    fn looks_closely(&self) -> bool {
         false
     }
 
@@ -338,9 +343,10 @@ struct Nobody;
 
 impl Onlooker for Nobody {}
 
-/// Hands all events on, with a fault if one is wanted.
+/// Hands events on, with a fault if one is wanted.
 struct Observer<'a> {
     fault: Option<Fault>,
+    closely: bool,
     observe: &'a mut dyn FnMut(Event),
 }
 
@@ -349,8 +355,12 @@ impl Onlooker for Observer<'_> {
         self.fault == Some(fault)
     }
 
-    fn looks(&self) -> bool {
-        true
+    fn is_faulty(&self) -> bool {
+        self.fault.is_some()
+    }
+
+    fn looks_closely(&self) -> bool {
+        self.closely
     }
 
     fn observe(&mut self, event: impl FnOnce() -> Event) {
@@ -688,6 +698,14 @@ impl<O: Onlooker> Search<'_, O> {
             true => 0,
             false => GUIDE_MARK,
         };
+        if self.onlooker.is_faulty() {
+            return self.faulty_line(guide, w1, without);
+        }
+        self.least(self.guide(guide), w1, without, |_, h| h != NO_OPINION)
+    }
+
+    /// What a planner with a fault takes for a guide's least key.
+    fn faulty_line(&self, guide: usize, w1: u64, without: u32) -> Option<(u64, usize)> {
         let sheet = self.guide(guide);
         if self.onlooker.has(Fault::OpinionOfZero) {
             let zeros: Vec<u32> = sheet.iter().map(|&h| h % NO_OPINION).collect();
@@ -699,7 +717,8 @@ impl<O: Onlooker> Search<'_, O> {
         (!refused).then_some(line)
     }
 
-    /// Whether a guide's number at a vertex is an opinion.
+    /// Whether a planner with a fault takes a guide's number at a vertex for
+    /// an opinion.
     fn has_opinion(&self, guide: usize, vertex: usize, h: u32) -> bool {
         let has = |fault| self.onlooker.has(fault);
         let number = has(Fault::OpinionTaken)
@@ -732,7 +751,7 @@ impl<O: Onlooker> Search<'_, O> {
     /// that would have the least key with a number there, m being the
     /// anchor's least key.
     fn tell_of_opinion(&mut self, guide: usize, m: u64, factors: Factors, left: bool) {
-        if self.guide_count == 0 || !self.onlooker.looks() {
+        if self.guide_count == 0 || !self.onlooker.looks_closely() {
             return;
         }
         let any = self.least(self.guide(guide), factors.w1, GUIDE_MARK, |_, _| true);
@@ -916,15 +935,34 @@ pub fn plan(request: &Request, memory: Memory) -> Answer {
     plan_with(request, memory, Nobody)
 }
 
-/// One planner call whose events are handed to `observe`, with a fault if
-/// one is wanted.
+/// One planner call whose events are handed to `observe`, all but those of
+/// guides without opinion, with a fault if one is wanted.
 pub fn plan_observed(
     request: &Request,
     memory: Memory,
     fault: Option<Fault>,
     observe: &mut dyn FnMut(Event),
 ) -> Answer {
-    plan_with(request, memory, Observer { fault, observe })
+    let observer = Observer {
+        fault,
+        closely: false,
+        observe,
+    };
+    plan_with(request, memory, observer)
+}
+
+/// One planner call whose events are all handed to `observe`.
+pub fn plan_observed_closely(
+    request: &Request,
+    memory: Memory,
+    observe: &mut dyn FnMut(Event),
+) -> Answer {
+    let observer = Observer {
+        fault: None,
+        closely: true,
+        observe,
+    };
+    plan_with(request, memory, observer)
 }
 
 fn plan_with<O: Onlooker>(request: &Request, memory: Memory, onlooker: O) -> Answer {
