@@ -55,6 +55,11 @@ module _ (n : ℕ) where
     unfolding better
     offered-left e = (rw e, h)
 
+-- what is not open is offered to no heuristic
+pub closed-left : (i h : ℕ) (p : Vertex) → p .opened ≡ false → offered i h p ≡ false
+unfolding offered
+closed-left i h p e = rw e
+
 -- a vertex that is offered has a g that the code may reckon with
 pub offered-priced : (st : List Vertex) → Priced st → (i h s : ℕ) → offered i h (at st s) ≡ true → at st s .g ≤ maxG
 offered-priced st p i h s e = p .reached s (p .opened s (offered-opened i h (at st s) (rw e tt)))

@@ -68,10 +68,13 @@ fn consider(
     requires { ⌜ Room z (mem (now work) (now wide)) × (s < z .vertices) × (z .vertices ≤ length (now numbers)) × (w1 ≤ maxFactor) × Within (z .vertices) (bestOf lead) × Priced (verticesOf z (mem (now work) (now wide))) ⌝ }
     ensures { λ r. ⌜ (bestOf r ≡ better (offered i (getD (now (numbers .entry)) s 0) (at (verticesOf z (mem (now (work .entry)) (now (wide .entry)))) s)) (key w1 (getD (now (numbers .entry)) s 0) (at (verticesOf z (mem (now (work .entry)) (now (wide .entry)))) s)) s (bestOf lead)) × Within (z .vertices) (bestOf r) ⌝ }
 {
-    let h = numbers[s as usize];
     let x = vertex_words::load(work, wide, z, s);
-    if vertices::offered(x, i, h) {
-        return lead.better(vertices::key(x, w1, h), s);
+    if x.opened {
+        let h = numbers[s as usize];
+        if vertices::offered(x, i, h) {
+            return lead.better(vertices::key(x, w1, h), s);
+        }
+        return lead;
     }
     lead
 }
