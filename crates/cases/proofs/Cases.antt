@@ -89,6 +89,7 @@ computed = (
   record {
     silent = record { says = refl; leaves = refl };
     no-guides = record { says = refl; leaves = refl };
+    silent-fork = record { says = refl; leaves = refl };
     one = record { says = refl; leaves = refl };
     would-have = refl;
     on-start = refl;
@@ -98,6 +99,7 @@ computed = (
     neither = refl;
     one-less = refl;
     anchor-number = record { says = refl; leaves = refl };
+    anchor-number-guided = refl;
   },
 )
 

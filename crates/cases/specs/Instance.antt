@@ -1,4 +1,4 @@
--- Instances of the guarantee: job A, job A with a barred lane, with a guide without any opinion, and job B under another rule for whose turn it is. Proved in proofs/Instance.antt.
+-- Instances of the guarantee: job A, job A with a barred lane, a job whose guide has no opinion at all, and job B under another rule for whose turn it is. Proved in proofs/Instance.antt.
 use Prim.Native.Nat.{ℕ, _*_, _≤_}
 use mathlib.Core.Path.{_≡_}
 use mathlib.Core.List.{List, [], _∷_}
@@ -11,7 +11,7 @@ use Rattle.search.specs.Guarantee.{Joins, Guarantee}
 use Rattle.cases.specs.Cases.{jobA}
 use Rattle.cases.specs.Apart.{jobB3}
 use Rattle.cases.specs.Barred.{rampA}
-use Rattle.cases.specs.Opinion.{silentA}
+use Rattle.cases.specs.Opinion.{silentFork}
 
 abbrev pub edge : ℕ → ℕ → ℕ → Edge
 edge tail head cost = record { tail = tail; head = head; cost = cost; class = 0 }
@@ -30,7 +30,7 @@ pub record Instance : Type 0 where
   -- with lane 0→1 barred, chains are those over the other three lanes, and the kept cost is 7
   pub permitted-edges : jobOf (rampA 2) .edges ≡ edge 0 2 4 ∷ edge 1 2 2 ∷ edge 2 3 3 ∷ []
   pub barred : (r : List ℕ) (n : ℕ) → Joins (jobOf (rampA 2)) r n → 7 ≤ n
-  -- with a sheet made wholly of "no opinion" the bound holds as it does of job A
-  pub silent : (r : List ℕ) (n : ℕ) → Joins (jobOf silentA) r n → 6 ≤ n
+  -- with a sheet made wholly of 4,294,967,295 the bound is 100, and the kept cost 47,999,900
+  pub silent : (r : List ℕ) (n : ℕ) → Joins (jobOf silentFork) r n → 10000 * 47999900 ≤ 1000000 * n
   -- so it does of job B where guide 3 has every turn, whose kept cost is 4
   pub any-rule : (r : List ℕ) (n : ℕ) → Joins jobB3 r n → 10000 * 4 ≤ 10000 * n

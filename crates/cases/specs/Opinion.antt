@@ -31,9 +31,9 @@ anchorAlone =
     }
 
 -- lanes 0→1 at 16,000,000, 0→2 at 15,999,900, 1→3, 2→3 and 3→4 at 16,000,000; from 0 to 4, the true costs as anchor table, one round with
--- w1 = 1 and w2 = 100; a guide with these numbers for vertices 1 and 2. So dear that every key of vertices 1 and 2 is within W2·m
-abbrev pub dearFork : ℕ → ℕ → Call
-dearFork h1 h2 =
+-- w1 = 1 and w2 = 100, a guide with this sheet. So dear that any number's key is within W2·m at first
+abbrev pub dearFork : List ℕ → Call
+dearFork sheet =
     record {
       bytes =
           (0x05 ∷ 0x05 ∷ [])
@@ -46,24 +46,28 @@ dearFork h1 h2 =
       goal = 4;
       barred = 0;
       anchor = 47999900 ∷ 32000000 ∷ 32000000 ∷ 16000000 ∷ 0 ∷ [];
-      sheets = 0 ∷ h1 ∷ h2 ∷ 0 ∷ 0 ∷ [];
+      sheets = sheet;
       count = 1;
       schedule = 100 ∷ 10000 ∷ [];
       budget = 100;
-      memory = record { route = replicate 5 old; log = replicate 3 old; work = replicate 31 old; wide = replicate 10 old };
+      memory = record { route = replicate 5 old; log = replicate 4 old; work = replicate 32 old; wide = replicate 11 old };
     }
 
--- plan A from 1 to 0, to which no lane leads, no guides; the anchor table has 4,294,967,295 but at the goal
-abbrev pub awayA : Call
-awayA =
+-- where its guide has no opinion on any vertex
+abbrev pub silentFork : Call
+silentFork = dearFork (replicate 5 unsaid)
+
+-- plan A from 1 to 0, to which no lane leads; the anchor table has 4,294,967,295 but at the goal; so many guides, whose sheets these are
+abbrev pub awayA : ℕ → List ℕ → Call
+awayA count sheets =
     record {
       bytes = planA;
       start = 1;
       goal = 0;
       barred = 0;
       anchor = 0 ∷ 4294967295 ∷ 4294967295 ∷ 4294967295 ∷ [];
-      sheets = [];
-      count = 0;
+      sheets = sheets;
+      count = count;
       schedule = [];
       budget = 100;
       memory = jobA 100 .memory;
@@ -77,7 +81,23 @@ pub record Opinion : Type 0 where
   -- job A without any opinion: table 0 alone in the log; route and bound, and all the rest, as without guides
   pub silent : HandsOver silentA (routed 6 4 2 4 10000) anchorAlone
   pub no-guides : HandsOver (guidedA 0 []) (routed 6 4 2 4 10000) anchorAlone
-  -- no opinion on vertex 2, which the guide would have taken in turn 2: it takes vertex 1; in turn 3 vertex 2 alone is open, and the anchor has it
+  -- so it is where the guide would have every turn if 4,294,967,295 were a number
+  pub silent-fork :
+      HandsOver silentFork (routed 47999900 4 1 3 1000000)
+      (record {
+        route = 0 ∷ 2 ∷ 3 ∷ 4 ∷ unset ∷ [];
+        log = 0 ∷ 2 ∷ 3 ∷ old ∷ [];
+        work =
+            (0 ∷ 2 ∷ 3 ∷ 4 ∷ 5 ∷ 5 ∷ [])
+            ++ (1 ∷ 2 ∷ 3 ∷ 3 ∷ 4 ∷ [])
+            ++ (16000000 ∷ 15999900 ∷ 16000000 ∷ 16000000 ∷ 16000000 ∷ [])
+            ++ (0 ∷ 0 ∷ 0 ∷ 0 ∷ 0 ∷ [])
+            ++ (unset ∷ 2 ∷ []) ++ (0 ∷ 4 ∷ []) ++ (0 ∷ 2 ∷ []) ++ (2 ∷ 2 ∷ []) ++ (3 ∷ 4 ∷ []) ++ (old ∷ []);
+        wide =
+            (0 ∷ 0 ∷ []) ++ (16000000 ∷ never ∷ []) ++ (15999900 ∷ 15999900 ∷ []) ++ (31999900 ∷ 31999900 ∷ [])
+            ++ (47999900 ∷ never ∷ []) ++ (old ∷ []);
+      })
+  -- no opinion on vertex 2: in turn 2 the guide takes vertex 1; in turn 3 vertex 2 alone is open, and the anchor has it
   pub one :
       HandsOver (guidedA 1 (0 ∷ 3 ∷ unsaid ∷ 0 ∷ [])) (routed 6 4 2 3 10000)
       (record {
@@ -86,23 +106,26 @@ pub record Opinion : Type 0 where
         work = workA (unset ∷ 0 ∷ []) (0 ∷ 0 ∷ []) (1 ∷ 0 ∷ []) (2 ∷ 4 ∷ []);
         wide = wideA (0 ∷ 0 ∷ []) (1 ∷ 1 ∷ []) (3 ∷ 3 ∷ []) (6 ∷ never ∷ []);
       })
+  -- with 0 there it would have taken vertex 2
   pub would-have : logOf (guidedA 1 (0 ∷ 3 ∷ 0 ∷ 0 ∷ [])) ≡ 65536 ∷ 65538 ∷ 65537 ∷ 65538 ∷ []
   -- no opinion on the start: the anchor has turn 1; on the goal: job A's turns
   pub on-start : logOf (guidedA 1 (unsaid ∷ 9 ∷ 0 ∷ 0 ∷ [])) ≡ 0 ∷ 65538 ∷ 1 ∷ 65538 ∷ []
   pub on-goal : logOf (guidedA 1 (0 ∷ 9 ∷ 0 ∷ unsaid ∷ [])) ≡ 65536 ∷ 65538 ∷ 1 ∷ 65538 ∷ []
   -- guide 1 has no opinion at all: the anchor has its turns, not guide 2, whose own are as they were
   pub two-guides : logOf (guidedA 2 (replicate 4 unsaid ++ (0 ∷ 9 ∷ 0 ∷ 0 ∷ []))) ≡ 0 ∷ 131074 ∷ 1 ∷ 131074 ∷ []
-  -- the least key is taken without vertex 2, whose number would have made it the least: the guide takes vertex 1, the anchor would take 2
-  pub least-without : logOf (dearFork 4294967294 unsaid) ≡ 65536 ∷ 65537 ∷ 65539 ∷ []
+  -- the least key is taken without vertex 2, which would have had it, as its g is lower: in turn 2 the guide takes vertex 1, the anchor would take 2
+  pub least-without : logOf (dearFork (0 ∷ 4294967294 ∷ unsaid ∷ 0 ∷ 0 ∷ [])) ≡ 65536 ∷ 65537 ∷ 65539 ∷ []
   -- no opinion on either: the anchor has turn 2. 4,294,967,294 is a number like others
-  pub neither : logOf (dearFork unsaid unsaid) ≡ 65536 ∷ 2 ∷ 65539 ∷ []
-  pub one-less : logOf (dearFork 4294967294 4294967294) ≡ 65536 ∷ 65538 ∷ 65539 ∷ []
-  -- in the anchor table 4,294,967,295 is a number like others too: vertices 1, 2 and 3 are expanded before there is no route
+  pub neither : logOf (dearFork (0 ∷ unsaid ∷ unsaid ∷ 0 ∷ 0 ∷ [])) ≡ 65536 ∷ 2 ∷ 65539 ∷ []
+  pub one-less : logOf (dearFork (0 ∷ 4294967294 ∷ 4294967294 ∷ 0 ∷ 0 ∷ [])) ≡ 65536 ∷ 65538 ∷ 65539 ∷ []
+  -- in the anchor table 4,294,967,295 is a number like others too: the anchor expands vertices 1, 2 and 3, and then there is no route
   pub anchor-number :
-      HandsOver awayA (noRouteAfter 3)
+      HandsOver (awayA 0 []) (noRouteAfter 3)
       (record {
         route = replicate 5 old;
         log = 1 ∷ 2 ∷ 3 ∷ old ∷ old ∷ [];
         work = workA (unset ∷ 0 ∷ []) (unset ∷ 2 ∷ []) (1 ∷ 2 ∷ []) (2 ∷ 2 ∷ []);
         wide = wideA (never ∷ never ∷ []) (0 ∷ 0 ∷ []) (2 ∷ 2 ∷ []) (5 ∷ 5 ∷ []);
       })
+  -- and so it is for a guide with opinions of its own
+  pub anchor-number-guided : logOf (awayA 1 (0 ∷ 0 ∷ 0 ∷ 0 ∷ [])) ≡ 65537 ∷ 65538 ∷ 65539 ∷ []
