@@ -284,7 +284,7 @@ enum {
  *              and never expands it; other guides and the anchor may. A
  *              guide's turn for which no place is left goes to the anchor,
  *              so a sheet of that number alone leaves all its turns to it.
- *              A sheet of distances is cut at SECONDCOOP_NO_OPINION - 1.
+ *              Distances too long for it are cut at that number less 1.
  * schedule     W1 and W2 of each round in hundredths, 100 to 10000, neither
  *              rising from a round to the next; up to 16 rounds, 32 numbers.
  *              An empty schedule means the house schedule, W1 = W2 = 500,

@@ -597,7 +597,11 @@ fn the_exit_status_tells_the_ending() {
     let cut = with("job-a.txt", "allowance 100", "allowance 1");
     let printed = "turn 1 table 1 place 0\nunfinished turns 1\n";
     assert_eq!(job(&["run"], cut), left(2, printed, ""));
-    // The refusal in plain words, by text and by bytes.
+}
+
+/// By text and by bytes.
+#[test]
+fn a_refusal_is_told_in_plain_words() {
     let words = "on lane 0, counted from 0, the anchor table has 7 at tail 0, above cost 1 + 5 \
                  at head 1 (refusal 13)\n";
     assert_eq!(
