@@ -31,7 +31,7 @@ anchorAlone =
     }
 
 -- lanes 0→1 at 16,000,000, 0→2 at 15,999,900, 1→3, 2→3 and 3→4 at 16,000,000; from 0 to 4, the true costs as anchor table, one round with
--- w1 = 1 and w2 = 100, a guide with this sheet. So dear that any number's key is within W2·m at first
+-- w1 = 1 and w2 = 100, a guide with this sheet. So dear that every key is within W2·m, whatever the number
 abbrev pub dearFork : List ℕ → Call
 dearFork sheet =
     record {

@@ -54,7 +54,7 @@ impl Lead {
     }
 }
 
-// The better of the best so far and vertex s.
+// The better of the best so far and vertex s, whose number is read only where it is open.
 fn consider(
     work: &[u32],
     wide: &[u64],
