@@ -1,4 +1,4 @@
--- The table of document 01's (p) cases, the jobs that tell its rules from others, and the cases of barred classes, of costs and of no opinion.
+-- The table of document 01's (p) cases, the jobs that tell its rules from others, and the cases of barred classes, of costs, of no opinion and of the lead.
 use mathlib.Core.Path.{refl}
 use Rattle.leb128.specs.Number.{planGroups, more, answered, read, encode}
 use Rattle.leb128.specs.Number
@@ -18,14 +18,15 @@ use Rattle.cases.specs.Apart.{Apart}
 use Rattle.cases.specs.Barred.{Barred}
 use Rattle.cases.specs.Costs.{Costs}
 use Rattle.cases.specs.Opinion.{Opinion}
+use Rattle.cases.specs.Lead.{shown, Lead}
 use Rattle.cases.proofs.Schedules.{house-schedule}
 use Rattle.cases.proofs.Ends.{plan-refused}
-use Rattle.search.specs.Guarantee.{withPick}
+use Rattle.search.specs.Guarantee.{roundOf, hOf, keyOf, withPick}
 use Rattle.cases.proofs.TwoVertices.{two-vertices}
 use Rattle.cases.proofs.StartIsGoal.{start-is-goal}
 
-computed : Cases × Apart × Barred × Costs × Opinion
-unfolding Number.decode more answered read planGroups encode vertexCountRows edgeCountRows tailRows headRows costRows classRows through throughAll takeNumber taking leastAfter past nextEdge before onward edgesFrom header afterHeader decode sizes over roomFor readAs edgesIn readAnswer listAfter edgesOf listRows edgeRows edgesFault writeFault edgeBytes edgesBytes bytesOf outAfter edgeCost onEdge costFrom routeCost barredBy permitted cyclic guides heuristic factors house unreached noPred routeEnd noOpinion fresh origin atFirst at key offered better leastFrom least stepOne candidate choose marked lowered relax relaxAll expand firstTurn nextTurn turned ended inHand step choice turn trace traced improves costOr reopened endRound onFinished settle settled begin onDue advance run moments search inForce scheduleOf outOfRange rising pairs row first endsRow tablesRow scheduleRow memoryRow goalRow edgesRow faultIn faultOf planEdges tables jobIn jobFrom jobOf bound summary cutShort answerAt answerOf figures routeWords routeAfter logWord logAfter edgesBelow firstEdges markWord twoEach workWords outcome answerIn answer memoryIn memoryAfter withPick
+computed : Cases × Apart × Barred × Costs × Opinion × Lead
+unfolding Number.decode more answered read planGroups encode vertexCountRows edgeCountRows tailRows headRows costRows classRows through throughAll takeNumber taking leastAfter past nextEdge before onward edgesFrom header afterHeader decode sizes over roomFor readAs edgesIn readAnswer listAfter edgesOf listRows edgeRows edgesFault writeFault edgeBytes edgesBytes bytesOf outAfter edgeCost onEdge costFrom routeCost barredBy permitted cyclic guides heuristic factors house unreached noPred routeEnd noOpinion fresh origin atFirst at key offered better leastFrom least stepOne candidate choose marked lowered relax relaxAll expand firstTurn nextTurn turned ended inHand step choice turn trace traced improves costOr reopened endRound onFinished settle settled begin onDue advance run moments search inForce scheduleOf outOfRange rising pairs row first endsRow tablesRow scheduleRow memoryRow goalRow edgesRow faultIn faultOf planEdges tables jobIn jobFrom jobOf bound summary cutShort answerAt answerOf figures routeWords routeAfter logWord logAfter edgesBelow firstEdges markWord twoEach workWords outcome answerIn answer memoryIn memoryAfter roundOf hOf keyOf withPick shown
 computed = (
   record {
     job-A = record { says = refl; leaves = refl };
@@ -101,6 +102,7 @@ computed = (
     anchor-number = record { says = refl; leaves = refl };
     anchor-number-guided = refl;
   },
+  record { job-A = refl; job-A-at-3 = refl; reached = refl; beyond = refl },
 )
 
 pub all-cases : Cases
@@ -117,3 +119,6 @@ costs = computed .3
 
 pub opinion : Opinion
 opinion = computed .4
+
+pub lead : Lead
+lead = computed .5

@@ -5,3 +5,4 @@ pub mod Apart
 pub mod Barred
 pub mod Costs
 pub mod Opinion
+pub mod Lead
