@@ -1,15 +1,15 @@
 //! Seeded jobs for the planner: tiny graphs, ladders, grids, zero costs,
 //! self-edges, barred classes, hostile and constant sheets, guides without
-//! opinion, budgets around the ends of rounds, start = goal, no walk to the
-//! goal, long paths whose costs pass 32 bits, and jobs damaged for each
-//! refusal.
+//! opinion, blind alleys, budgets around the ends of rounds, start = goal, no
+//! walk to the goal, long paths whose costs pass 32 bits, and jobs damaged for
+//! each refusal.
 
 use std::collections::BTreeMap;
 
 use crate::bench_text;
 use crate::dijkstra;
 use crate::generate::{self, Plan};
-use crate::planner::{self, Answer, Event, Memory, Request, MOST_OPINION, NO_OPINION};
+use crate::planner::{self, Answer, Event, Fault, Memory, Request, MOST_OPINION, NO_OPINION};
 use crate::random::Random;
 use crate::reference::MOST_COST;
 
@@ -62,6 +62,19 @@ impl Job {
         }
     }
 
+    /// The factors that its rounds have, W1 and W2 of each.
+    pub fn factors(&self) -> &[u32] {
+        planner::in_force(&self.schedule)
+    }
+
+    /// The job with room in its log for all its turns: 2·V in each round.
+    pub fn with_whole_log(&self) -> Job {
+        Job {
+            log_room: self.anchor.len() * self.factors().len(),
+            ..self.clone()
+        }
+    }
+
     /// What the call is asked.
     pub fn request(&self) -> Request<'_> {
         Request {
@@ -77,8 +90,31 @@ impl Job {
         }
     }
 
+    /// A vertex's number in a table, 0 being the anchor.
+    pub fn number(&self, table: u32, vertex: u32) -> u32 {
+        match table as usize {
+            0 => self.anchor[vertex as usize],
+            guide => self.guides[(guide - 1) * self.anchor.len() + vertex as usize],
+        }
+    }
+
     /// The second planner's answer and events, memory left aside.
     pub fn events(&self) -> (Answer, Vec<Event>) {
+        self.told_by(planner::plan_observed_closely)
+    }
+
+    /// The same of the second planner with a fault, but for events that take
+    /// a scan of their own.
+    pub fn faulty_events(&self, fault: Fault) -> (Answer, Vec<Event>) {
+        self.told_by(|request, memory, observe| {
+            planner::plan_observed(request, memory, Some(fault), observe)
+        })
+    }
+
+    fn told_by(
+        &self,
+        plan: impl FnOnce(&Request, Memory, &mut dyn FnMut(Event)) -> Answer,
+    ) -> (Answer, Vec<Event>) {
         let mut events = Vec::new();
         let memory = Memory {
             route: &mut vec![0; self.route_room],
@@ -86,9 +122,7 @@ impl Job {
             work: &mut vec![0; self.work_room],
             wide: &mut vec![0; self.wide_room],
         };
-        let answer = planner::plan_observed_closely(&self.request(), memory, &mut |event| {
-            events.push(event)
-        });
+        let answer = plan(&self.request(), memory, &mut |event| events.push(event));
         (answer, events)
     }
 
@@ -706,6 +740,141 @@ pub fn far_job(random: &mut Random) -> (Plan, Job) {
     let most = [random.pick(&[100, 120, 200]), 10_000];
     job.schedule = falling_factors(random, rounds, most);
     (plan, job)
+}
+
+/// A floor with a blind alley that its only guide praises. From the start two
+/// edges of cost 0 lead to the true way, so that the anchor's least key stays
+/// at w1 times the cheapest cost while the guide goes into the alley, which
+/// leaves the first or the second vertex. From the alley's end an edge leads
+/// to the goal, of class 1, which is barred.
+#[derive(Clone, Debug)]
+pub struct Alley {
+    /// The cost of the cheapest walk.
+    pub cheapest: u32,
+    /// The vertex that the alley leaves, 0 or 1, and its edges' costs.
+    pub from: u32,
+    pub steps: Vec<u32>,
+    /// A dear edge from the start to the goal.
+    pub dear: Option<u32>,
+    /// The guide's number on the true way; in the alley it has 0.
+    pub number: u32,
+    pub schedule: Vec<u32>,
+}
+
+impl Alley {
+    pub fn goal(&self) -> u32 {
+        2 + parts(self.cheapest).len() as u32
+    }
+
+    /// The vertex at the end of so many steps of the alley.
+    pub fn vertex(&self, steps: usize) -> u32 {
+        self.goal() + steps as u32
+    }
+
+    /// The cost of each permitted edge, by tail and head.
+    fn edges(&self) -> BTreeMap<(u32, u32), u32> {
+        let mut edges = BTreeMap::from([((0, 1), 0), ((1, 2), 0)]);
+        let goal = self.goal();
+        edges.extend((2..).map(|tail| (tail, tail + 1)).zip(parts(self.cheapest)));
+        let tails = std::iter::once(self.from).chain(goal + 1..);
+        edges.extend(tails.zip(goal + 1..).zip(self.steps.iter().copied()));
+        edges.extend(self.dear.map(|cost| ((0, goal), cost)));
+        edges
+    }
+
+    pub fn plan(&self) -> Plan {
+        let mut edges = self.edges();
+        let barred = (self.vertex(self.steps.len()), self.goal());
+        edges.insert(barred, 1);
+        Plan {
+            vertices: self.vertex(self.steps.len()) + 1,
+            tails: edges.keys().map(|pair| pair.0).collect(),
+            heads: edges.keys().map(|pair| pair.1).collect(),
+            costs: edges.values().copied().collect(),
+            classes: edges
+                .keys()
+                .map(|&pair| u32::from(pair == barred))
+                .collect(),
+        }
+    }
+
+    pub fn job(&self) -> (Plan, Job) {
+        let (plan, goal) = (self.plan(), self.goal());
+        let mut wish = vec![u32::MAX; plan.vertices as usize];
+        wish[goal as usize] = 0;
+        let anchor = dijkstra::consistent_table(&plan, &wish);
+        let sheet = (0..plan.vertices).map(|vertex| match vertex {
+            _ if vertex <= self.from || vertex > goal => 0,
+            _ => self.number,
+        });
+        let (sheet, schedule) = (sheet.collect(), self.schedule.clone());
+        let mut job = Job::new(&plan, 0, goal, anchor, sheet, 1, schedule, u32::MAX);
+        job.barred = 1 << 1;
+        (plan, job)
+    }
+}
+
+/// An alley with a vertex at exactly w1·w2 times the cheapest cost in the
+/// round that the guide goes into it, or one dearer by 1, and with one behind.
+/// That is the first round, or the second one where a dear edge finishes the
+/// first. Some costs pass 32 bits.
+pub fn random_alley(random: &mut Random) -> Alley {
+    let far = random.one_in(30);
+    let least = if far { 20 } else { 10 };
+    let [w1, w2] = [(); 2].map(|()| 10 * random.range32(least, 50));
+    let product = w1 * w2;
+    let least = (1..).find(|least| product * least % 10_000 == 0);
+    let most = random.pick(&[5, 1_000, 20_000]);
+    let mut cheapest = least.expect("10,000 is one") * random.range32(1, most);
+    if far {
+        cheapest += (u32::MAX / product + 1) * 10_000;
+    }
+    let lead = u64::from(product) * u64::from(cheapest) / 10_000;
+    let mut steps = Vec::new();
+    let mut left = lead + u64::from(random.one_in(3));
+    while left > 0 {
+        let most = left.min(MOST_COST.into()) as u32;
+        let short = !far && random.one_in(2);
+        steps.push(if short { random.range32(1, most) } else { most });
+        left -= u64::from(steps[steps.len() - 1]);
+    }
+    steps.push(random.range32(1, 9));
+    let mut alley = Alley {
+        cheapest,
+        from: random.range32(0, 1),
+        steps,
+        dear: None,
+        number: random.pick(&[MOST_OPINION, NO_OPINION]),
+        schedule: vec![w1, w2],
+    };
+    let dear = lead + random.range(1, lead.min(1_000));
+    if random.one_in(2) && dear <= MOST_COST.into() {
+        (alley.from, alley.dear) = (1, Some(dear as u32));
+        alley.schedule = vec![2 * w1, 2 * w2, w1, w2];
+    }
+    alley
+}
+
+/// Jobs on alleys: each with a budget that never runs out, and with one that
+/// cuts a round.
+pub fn alley_jobs(seed: u64, count: usize, sink: &mut dyn FnMut(&Plan, &Job)) {
+    let mut random = Random::new(seed);
+    for _ in 0..count {
+        let (plan, mut job) = random_alley(&mut random).job();
+        sink(&plan, &job);
+        job.budget = random.range32(0, plan.vertices);
+        sink(&plan, &job);
+    }
+}
+
+/// A cost as the sum of edges' costs, one of them at least.
+fn parts(cost: u32) -> Vec<u32> {
+    let (whole, rest) = (cost / MOST_COST, cost % MOST_COST);
+    let mut parts = vec![MOST_COST; whole as usize];
+    if rest > 0 || parts.is_empty() {
+        parts.push(rest);
+    }
+    parts
 }
 
 /// The turns after which rounds end, with a budget that never runs out.

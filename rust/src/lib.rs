@@ -2,6 +2,7 @@
 //! written from the papers alone, and what is needed to compare the library
 //! under test with it.
 
+pub mod asked;
 pub mod bench_text;
 pub mod clock;
 pub mod compare;
@@ -12,6 +13,7 @@ pub mod generate;
 pub mod guarded;
 pub mod input;
 pub mod jobs;
+pub mod lead;
 pub mod planner;
 pub mod planners;
 pub mod random;

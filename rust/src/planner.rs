@@ -25,6 +25,15 @@ pub const MOST_OPINION: u32 = NO_OPINION - 1;
 /// W1 and W2 of each round where the schedule is empty.
 pub const HOUSE_SCHEDULE: [u32; 12] = [500, 500, 300, 300, 200, 200, 150, 150, 120, 120, 100, 100];
 
+/// The factors that a call's rounds have: its schedule's, or the house
+/// schedule's if that is empty.
+pub fn in_force(schedule: &[u32]) -> &[u32] {
+    match schedule {
+        [] => &HOUSE_SCHEDULE,
+        schedule => schedule,
+    }
+}
+
 /// A barred number has a bit for each class and is from 0 to this.
 pub const MOST_BARRED: u32 = 255;
 
@@ -270,10 +279,26 @@ pub enum Fault {
     OpinionInFirstRound,
     /// No opinion counts as 0.
     OpinionOfZero,
+    /// A guide expands the vertex of its least key, however great that is.
+    GuideUnbound,
+    /// W1 in place of W2 where a guide's key is tested.
+    GuideByW1,
+    /// W2 in place of W1 in a guide's key.
+    GuideKeyByW2,
+    /// A guide's key is tested without the number on its sheet.
+    GuideByCost,
+    /// A guide's key is tested by g(goal) in place of the anchor's least key,
+    /// and not at all before the goal is reached.
+    GuideByGoal,
+    /// A guide's key is tested by the least key that the anchor had when the
+    /// round began.
+    GuideByFirstLeast,
+    /// The anchor expands the lowest open vertex, whatever its key.
+    AnchorLowest,
 }
 
 /// All faults.
-pub const FAULTS: [Fault; 43] = [
+pub const FAULTS: [Fault; 50] = [
     Fault::CostOfGoal,
     Fault::OpenAgain,
     Fault::Forgotten,
@@ -317,6 +342,13 @@ pub const FAULTS: [Fault; 43] = [
     Fault::OpinionOnStart,
     Fault::OpinionInFirstRound,
     Fault::OpinionOfZero,
+    Fault::GuideUnbound,
+    Fault::GuideByW1,
+    Fault::GuideKeyByW2,
+    Fault::GuideByCost,
+    Fault::GuideByGoal,
+    Fault::GuideByFirstLeast,
+    Fault::AnchorLowest,
 ];
 
 /// Who looks on at a search: counts its events, or plants a fault.
@@ -489,10 +521,11 @@ struct Search<'a, O> {
     bound: u32,
     /// Cost and length of the kept route, which stands in route memory.
     kept: Option<(u64, u32)>,
-    /// Turns before the round in hand, and the guide that a faulty planner
-    /// goes on with.
+    /// Turns before the round in hand; the guide that a faulty planner goes
+    /// on with, and the least key that it goes by.
     turns_before: u32,
     next_guide: usize,
+    first_least: Option<u64>,
     onlooker: O,
 }
 
@@ -678,8 +711,12 @@ impl<O: Onlooker> Search<'_, O> {
     }
 
     /// The vertex that the anchor fills a guide's turn with is that of its
-    /// least key; a faulty planner leaves some out.
+    /// least key; a faulty planner leaves some out, or looks at no key.
     fn filled(&self, guide: usize, anchor_choice: usize, w1: u64) -> usize {
+        if self.onlooker.has(Fault::AnchorLowest) {
+            let open = |[_, marks]: &Vertex| marks & OPEN != 0;
+            return self.vertices.iter().position(open).unwrap_or(anchor_choice);
+        }
         if self.guide_count == 0 || !self.onlooker.has(Fault::OpinionForAnchor) {
             return anchor_choice;
         }
@@ -690,7 +727,7 @@ impl<O: Onlooker> Search<'_, O> {
 
     /// The least key of the guide with the turn over the vertices that it has
     /// an opinion on, and its vertex.
-    fn guide_line(&self, guide: usize, w1: u64) -> Option<(u64, usize)> {
+    fn guide_line(&self, guide: usize, factors: Factors) -> Option<(u64, usize)> {
         if self.guide_count == 0 {
             return None;
         }
@@ -699,14 +736,20 @@ impl<O: Onlooker> Search<'_, O> {
             false => GUIDE_MARK,
         };
         if self.onlooker.is_faulty() {
-            return self.faulty_line(guide, w1, without);
+            return self.faulty_line(guide, factors, without);
         }
-        self.least(self.guide(guide), w1, without, |_, h| h != NO_OPINION)
+        self.least(self.guide(guide), factors.w1, without, |_, h| {
+            h != NO_OPINION
+        })
     }
 
     /// What a planner with a fault takes for a guide's least key.
-    fn faulty_line(&self, guide: usize, w1: u64, without: u32) -> Option<(u64, usize)> {
+    fn faulty_line(&self, guide: usize, factors: Factors, without: u32) -> Option<(u64, usize)> {
         let sheet = self.guide(guide);
+        let w1 = match self.onlooker.has(Fault::GuideKeyByW2) {
+            true => factors.w2,
+            false => factors.w1,
+        };
         if self.onlooker.has(Fault::OpinionOfZero) {
             let zeros: Vec<u32> = sheet.iter().map(|&h| h % NO_OPINION).collect();
             return self.least(&zeros, w1, without, |_, _| true);
@@ -741,10 +784,35 @@ impl<O: Onlooker> Search<'_, O> {
         opinion != has(Fault::OpinionInverted)
     }
 
-    /// Whether a guide's least key is within w2 times the anchor's, m.
-    fn is_within(&self, key: u64, m: u64, factors: Factors) -> bool {
-        let strict = u64::from(self.onlooker.has(Fault::GuideStrict));
-        100 * key + strict <= factors.w2 * m
+    /// Whether a guide's least key, that of a vertex, is within w2 times the
+    /// anchor's, m.
+    fn is_within(&self, (key, vertex): (u64, usize), m: u64, factors: Factors) -> bool {
+        if self.onlooker.is_faulty() {
+            return self.is_within_by_fault((key, vertex), m, factors);
+        }
+        100 * key <= factors.w2 * m
+    }
+
+    /// The same for a planner with a fault.
+    fn is_within_by_fault(&self, line: (u64, usize), m: u64, factors: Factors) -> bool {
+        let has = |fault| self.onlooker.has(fault);
+        let ((mut key, vertex), mut m, mut factor) = (line, m, factors.w2);
+        let [[cost, _], [goal_cost, _]] = [vertex, self.goal].map(|vertex| self.wide[vertex]);
+        if has(Fault::GuideByCost) {
+            key = 100 * cost;
+        }
+        if has(Fault::GuideByW1) {
+            factor = factors.w1;
+        }
+        if has(Fault::GuideByGoal) && goal_cost != UNREACHED {
+            m = 100 * goal_cost;
+        }
+        if has(Fault::GuideByFirstLeast) {
+            m = self.first_least.unwrap_or(m);
+        }
+        let untested =
+            has(Fault::GuideUnbound) || has(Fault::GuideByGoal) && goal_cost == UNREACHED;
+        untested || 100 * key + u64::from(has(Fault::GuideStrict)) <= factor * m
     }
 
     /// Tells of a vertex that the guide with the turn has no opinion on and
@@ -797,13 +865,13 @@ impl<O: Onlooker> Search<'_, O> {
 
     /// The guide with the turn is the one whose turn it is; a faulty planner
     /// gives the turn to the next one with a vertex to take.
-    fn guide_with_turn(&self, guide: usize, w1: u64) -> usize {
+    fn guide_with_turn(&self, guide: usize, factors: Factors) -> usize {
         if !self.onlooker.has(Fault::OpinionLosesTurn) {
             return guide;
         }
         let guides = std::iter::successors(Some(guide), |&guide| Some(self.guide_after(guide, 1)));
         let mut guides = guides.take(self.guide_count);
-        let found = guides.find(|&guide| self.guide_line(guide, w1).is_some());
+        let found = guides.find(|&guide| self.guide_line(guide, factors).is_some());
         found.unwrap_or(guide)
     }
 
@@ -841,14 +909,14 @@ impl<O: Onlooker> Search<'_, O> {
                 return Some(End::Spent);
             }
             // Step 3.
-            guide = self.guide_with_turn(guide, factors.w1);
-            let line = self.guide_line(guide, factors.w1);
+            guide = self.guide_with_turn(guide, factors);
+            let line = self.guide_line(guide, factors);
             let no_line = self.guide_count > 0 && line.is_none();
             self.tell_of_opinion(guide, m, factors, !no_line);
             if no_line && self.onlooker.has(Fault::NothingExpanded) {
                 return Some(End::NoRoute);
             }
-            let (table, vertex) = match line.filter(|line| self.is_within(line.0, m, factors)) {
+            let (table, vertex) = match line.filter(|&line| self.is_within(line, m, factors)) {
                 Some((_, vertex)) => (guide, vertex),
                 None => (0, self.filled(guide, anchor_choice, factors.w1)),
             };
@@ -899,6 +967,9 @@ impl<O: Onlooker> Search<'_, O> {
             self.turns_before = self.turns;
             if !(self.onlooker.has(Fault::NoBegin) && self.spent()) {
                 self.begin_round();
+            }
+            if self.onlooker.has(Fault::GuideByFirstLeast) {
+                self.first_least = self.anchor_line(factors.w1).map(|(m, _)| m);
             }
             self.onlooker.observe(|| Event::Begin { round });
             match self.round(round, factors) {
@@ -971,12 +1042,8 @@ fn plan_with<O: Onlooker>(request: &Request, memory: Memory, onlooker: O) -> Ans
         Ok(counts) => counts,
         Err(Refusal { number, position }) => return Answer::Refused { number, position },
     };
-    let schedule = match request.schedule {
-        [] => &HOUSE_SCHEDULE,
-        schedule => schedule,
-    };
     let mut search = loaded(request, memory, counts, onlooker);
-    let end = search.run(schedule);
+    let end = search.run(in_force(request.schedule));
     let turns = search.turns;
     match end {
         End::Route => {
@@ -1113,6 +1180,7 @@ fn loaded<'a, O: Onlooker>(
         kept: None,
         turns_before: 0,
         next_guide: 1,
+        first_least: None,
         onlooker,
     }
 }

@@ -2,9 +2,9 @@
 //! ones. One job runs on two of them, and figures, text and the whole lent
 //! memory are compared, the words around it included.
 
-use crate::bench_text;
+use crate::bench_text::{self, logged, Turn};
 use crate::ffi;
-use crate::guarded::Guarded;
+use crate::guarded::{Guarded, GUARD};
 use crate::jobs::Job;
 use crate::planner::{self, Answer, Fault, Figures, Memory, Request};
 use crate::reference::LAST_REFUSAL;
@@ -89,6 +89,13 @@ impl Outcome {
     /// The answer that the figures give.
     pub fn answer(&self) -> Answer {
         Answer::of_figures(self.figures).expect("figures of an answer")
+    }
+
+    /// The turns that the log shows.
+    pub fn turns(&self) -> Vec<Turn> {
+        let [.., turns, _] = self.figures;
+        let log = &self.log[GUARD..self.log.len() - GUARD];
+        logged(log, turns as usize)
     }
 }
 
@@ -357,7 +364,6 @@ impl<'a> Comparison<'a> {
 #[cfg(test)]
 mod tests {
     use super::*;
-    use crate::guarded::GUARD;
     use crate::jobs;
     use crate::random::Random;
 

@@ -3,11 +3,15 @@
 //! planner call.
 
 use crate::bench_text::{answer_text, logged, refused};
-use crate::planner::{wide_numbers, work_words, Answer, Memory, Request, HOUSE_SCHEDULE};
+use crate::jobs::Job;
+use crate::planner::{in_force, wide_numbers, work_words, Answer, Memory};
 use crate::planners::{printed, Planner};
 use crate::reference::{MOST_EDGES, MOST_VERTICES};
 use crate::refusals::Taker;
 use crate::text::TextJob;
+
+/// The factors of the longest schedule.
+const MOST_FACTORS: usize = 32;
 
 /// What a planner prints for a job.
 pub fn run(planner: &dyn Planner, job: &TextJob) -> String {
@@ -20,54 +24,50 @@ pub fn run(planner: &dyn Planner, job: &TextJob) -> String {
 /// The planner call that a job asks, with memory enough for all that it can
 /// give: route, work and wide memory for the plan, and a log for 2·V turns in
 /// each round. The numbers of the tables are the anchor table's first, as many as
-/// there are places. Bytes without the numbers of a call are refused as the
-/// bench program does it.
-pub fn call(planner: &dyn Planner, job: &TextJob) -> String {
-    let Ok(lines) = job.lines() else {
-        return refused(14, 0);
-    };
-    let Ok(numbers) = lines.tables.numbers() else {
-        return refused(14, 0);
-    };
+/// there are places. Bytes without the numbers of a call ask none.
+pub fn asked(job: &TextJob) -> Option<Job> {
+    let lines = job.lines().ok()?;
+    let numbers = lines.tables.numbers().ok()?;
     let schedule: Vec<u32> = lines.rounds.iter().flat_map(|round| round.says).collect();
     let (places, lanes) = lines.plan.lines().map_or((0, 0), |plan| {
         let places = plan.places.says.min(MOST_VERTICES) as usize;
         (places, plan.lanes.len().min(MOST_EDGES as usize))
     });
     let (anchor, guides) = numbers.split_at(places.min(numbers.len()));
-    let turns = most_turns(places, schedule.len()).min(lines.allowance.says as usize);
-    let mut route = vec![0; places];
-    let mut log = vec![0; turns];
-    let mut work = vec![0; work_words(places, lanes)];
-    let mut wide = vec![0; wide_numbers(places)];
-    let request = Request {
-        bytes: &lines.plan.bytes().expect("a job's plan has bytes"),
+    let turns = places * in_force(&schedule).len().min(MOST_FACTORS);
+    Some(Job {
+        bytes: lines.plan.bytes().expect("a job's plan has bytes"),
         start: lines.start.says,
         goal: lines.goal.says,
         barred: lines.barred.says,
-        anchor,
-        guides,
+        anchor: anchor.to_vec(),
+        guides: guides.to_vec(),
         guide_count: lines.tables.guide_count().says as u32,
-        schedule: &schedule,
+        schedule,
         budget: lines.allowance.says,
+        route_room: places,
+        log_room: turns.min(lines.allowance.says as usize),
+        work_room: work_words(places, lanes),
+        wide_room: wide_numbers(places),
+    })
+}
+
+/// What the planner call that a job asks gives, printed. Where it asks none it
+/// is refused as the bench program does it.
+pub fn call(planner: &dyn Planner, job: &TextJob) -> String {
+    let Some(job) = asked(job) else {
+        return refused(14, 0);
     };
+    let mut route = vec![0; job.route_room];
+    let mut log = vec![0; job.log_room];
     let memory = Memory {
         route: &mut route,
         log: &mut log,
-        work: &mut work,
-        wide: &mut wide,
+        work: &mut vec![0; job.work_room],
+        wide: &mut vec![0; job.wide_room],
     };
-    let figures = planner.plan(&request, memory);
+    let figures = planner.plan(&job.request(), memory);
     let answer = Answer::of_figures(figures).expect("figures of an answer");
     let [.., turns, _] = figures;
     answer_text(&answer, &route, &logged(&log, turns as usize))
-}
-
-/// The turns that a call can have, by its places and the factors of its
-/// schedule.
-fn most_turns(places: usize, factors: usize) -> usize {
-    match factors {
-        0 => places * HOUSE_SCHEDULE.len(),
-        factors => places * factors.min(32),
-    }
 }

@@ -5,8 +5,10 @@ use std::fs;
 use std::path::PathBuf;
 use std::process::Command;
 
-use secondcoop_tests::planners::{printed, Library, SecondPlanner};
+use secondcoop_tests::lead;
+use secondcoop_tests::planners::{self, printed, Library, Planner, SecondPlanner};
 use secondcoop_tests::refusals::{remarks, Taker};
+use secondcoop_tests::run;
 use secondcoop_tests::text::{PlanLines, TextJob};
 
 fn examples() -> PathBuf {
@@ -52,6 +54,7 @@ fn all_are_there() {
         "yard",
         "no-opinion",
         "no-way-through",
+        "silly-guide",
     ];
     wanted.extend(floors.map(String::from));
     wanted.sort();
@@ -133,6 +136,31 @@ fn a_guide_without_opinion_leaves_the_turn() {
         let bytes = TextJob::parse(&text).expect("a text form").bytes();
         assert_eq!(turn_of(&printed(&SecondPlanner, &bytes), 3), turn);
         assert_eq!(turn_of(&printed(&Library, &bytes), 3), turn);
+    }
+}
+
+/// The silly guide takes the places of the alley up to cost 12, 3 times the
+/// cheapest cost, and the next one neither in this round nor in the next; with
+/// the alley's last step longer by 1 it takes one place less. The route is the
+/// cheapest one.
+#[test]
+fn a_silly_guide_is_kept_on_its_lead() {
+    let text = read_text("silly-guide", "txt");
+    let longer = text.replace("lane 5 6 4 0", "lane 5 6 5 0");
+    for planner in [&Library as &dyn Planner, &SecondPlanner] {
+        for (text, alley) in [(&text, &[0, 4, 5, 6][..]), (&longer, &[0, 4, 5])] {
+            let job = TextJob::parse(text).expect("a text form");
+            let job = run::asked(&job).expect("a job");
+            let turns = lead::of_log(planner, &job);
+            let (guides, anchor) = turns.split_at(alley.len());
+            assert!(guides.iter().all(|turn| turn.table == 1));
+            assert!(guides.iter().map(|turn| &turn.vertex).eq(alley));
+            assert!(anchor.iter().all(|turn| turn.table == 0));
+            assert!(anchor.iter().map(|turn| turn.vertex).eq([1, 2]));
+            let last = guides[guides.len() - 1].share(4);
+            assert_eq!(last.is_whole(), alley.len() == 4);
+            assert!(planners::run(planner, &job, 0).figures[3] == 4);
+        }
     }
 }
 

@@ -1,6 +1,7 @@
 //! What the C header says beside its declarations: its numbers, the turns
-//! that suffice, no opinion, a table of zeros, threads, the bytes of a text.
-//! What needs a C program, as stack and alignment, is in `c_programs`.
+//! that suffice, no opinion, how far a guide sheet drags, a table of zeros,
+//! threads, the bytes of a text. What needs a C program, as stack and
+//! alignment, is in `c_programs`.
 
 use std::collections::BTreeMap;
 use std::fs;
@@ -11,7 +12,8 @@ use secondcoop_tests::bench_text::MOST_BENCH_VERTICES;
 use secondcoop_tests::ffi;
 use secondcoop_tests::generate;
 use secondcoop_tests::guarded::GUARD;
-use secondcoop_tests::jobs::{self, Job};
+use secondcoop_tests::jobs::{self, Alley, Job};
+use secondcoop_tests::lead;
 use secondcoop_tests::planner::{self, Answer, HOUSE_SCHEDULE};
 use secondcoop_tests::planners::{self, Library};
 use secondcoop_tests::reference::{MOST_CLASS, MOST_COST, MOST_EDGES, MOST_VERTICES};
@@ -132,10 +134,7 @@ fn turns_that_suffice() {
         let mut job = job.clone();
         let answer = planners::run(&Library, &job, 0).answer();
         cut += u32::from(matches!(answer, Answer::Unfinished { .. }));
-        let rounds = match job.schedule.len() as u32 / 2 {
-            0 => HOUSE_SCHEDULE.len() as u32 / 2,
-            rounds => rounds,
-        };
+        let rounds = job.factors().len() as u32 / 2;
         job.budget = 2 * plan.vertices;
         let answer = planners::run(&Library, &job, 0).answer();
         assert!(!matches!(
@@ -178,6 +177,68 @@ fn no_opinion_is_one_number() {
     assert_eq!(first_turn(no_opinion, no_opinion - 1), 65_536);
     assert_eq!(first_turn(no_opinion - 1, no_opinion - 1), 65_536);
     assert_eq!(first_turn(no_opinion - 1, no_opinion), 0);
+}
+
+/// The header's figures for the house schedule: in each of its rounds a guide
+/// goes into a blind alley up to exactly so many times the cheapest chain, and
+/// not to a place dearer by 1.
+#[test]
+fn a_guide_goes_as_far_as_the_header_says() {
+    let header = read("include/secondcoop.h").replace("\n * ", " ");
+    let (_, rest) = header
+        .split_once("no guide goes to a place dearer than ")
+        .expect("a sentence");
+    let (figures, _) = rest
+        .split_once(" times the cheapest chain")
+        .expect("its end");
+    let figures = figures.replace(" and", ",");
+    let hundredths: Vec<u32> = figures.split(", ").map(in_hundredths).collect();
+    assert_eq!(hundredths.len(), HOUSE_SCHEDULE.len() / 2);
+    for (round, &hundredths) in hundredths.iter().enumerate() {
+        for over in [0, 1] {
+            // The cheapest chain costs 100.
+            let alley = Alley {
+                cheapest: 100,
+                from: 0,
+                steps: vec![hundredths + over],
+                dear: None,
+                number: planner::MOST_OPINION,
+                schedule: HOUSE_SCHEDULE[2 * round..2 * round + 2].to_vec(),
+            };
+            let (_, job) = alley.job();
+            let turns = planners::run(&Library, &job, 0).turns();
+            assert_eq!(
+                turns.contains(&(1, alley.vertex(1))),
+                over == 0,
+                "{turns:?}"
+            );
+        }
+    }
+}
+
+/// A number with up to two decimals.
+fn in_hundredths(number: &str) -> u32 {
+    let (whole, part) = number.split_once('.').unwrap_or((number, ""));
+    format!("{whole}{part:0<2}").parse().expect("a number")
+}
+
+/// What the header says of every turn, on seeded jobs through the library.
+#[test]
+fn no_turn_goes_further_than_the_header_says() {
+    let (mut guides, mut anchor) = (0, 0);
+    jobs::valid_jobs(53, 1_500, &mut |plan, job| {
+        let Some(cheapest) = lead::cheapest(plan, job) else {
+            return;
+        };
+        for turn in lead::of_log(&Library, job) {
+            assert!(turn.share(cheapest).is_kept(), "{turn:?}: {job:?}");
+            match turn.table {
+                0 => anchor += 1,
+                _ => guides += 1,
+            }
+        }
+    });
+    assert!(guides > 2_500 && anchor > 2_500, "{guides}, {anchor}");
 }
 
 #[test]

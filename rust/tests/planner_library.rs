@@ -5,9 +5,7 @@
 //! The variable `SECONDCOOP_JOBS` is about the count of jobs in the first
 //! test, with a fifth as many texts; `SECONDCOOP_SEED` asks for other jobs.
 
-use std::env;
-use std::str::FromStr;
-
+use secondcoop_tests::asked::{self, seed};
 use secondcoop_tests::bench_text;
 use secondcoop_tests::events::Events;
 use secondcoop_tests::generate::Plan;
@@ -21,20 +19,6 @@ const JOBS: usize = 150_000;
 /// The count of budgets that a job comes with, about.
 const BUDGETS: usize = 5;
 
-/// What a variable asks for, if it is set.
-fn asked<T: FromStr>(name: &str) -> Option<T> {
-    let value = env::var(name).ok()?;
-    match value.parse() {
-        Ok(number) => Some(number),
-        Err(_) => panic!("{name} is not a number: {value}"),
-    }
-}
-
-/// The seed of a test.
-fn seed(own: u64) -> u64 {
-    own + 1_000 * asked::<u64>("SECONDCOOP_SEED").unwrap_or(0)
-}
-
 /// Each listed kind of ending was met at least so often, and no other.
 fn met(kinds: &[u64; KINDS], least: &[(usize, u64)]) {
     for (kind, &count) in kinds.iter().enumerate() {
@@ -47,7 +31,7 @@ fn met(kinds: &[u64; KINDS], least: &[(usize, u64)]) {
 
 #[test]
 fn seeded_jobs_are_planned_alike() {
-    let wanted = asked("SECONDCOOP_JOBS").unwrap_or(JOBS);
+    let wanted = asked::jobs(JOBS);
     let mut comparison = Comparison::new(&Library, &SecondPlanner);
     let mut events = Events::default();
     let mut compare = |_: &Plan, job: &Job| {
@@ -169,7 +153,7 @@ fn jobs_at_the_limits_are_planned_alike() {
 
 #[test]
 fn texts_are_printed_alike() {
-    let wanted = asked("SECONDCOOP_JOBS").unwrap_or(JOBS);
+    let wanted = asked::jobs(JOBS);
     let mut comparison = Comparison::new(&Library, &SecondPlanner);
     jobs::bench_jobs(seed(76), wanted / 5 / BUDGETS, &mut |bytes, known| {
         comparison.text(bytes, known.as_deref());

@@ -6,38 +6,11 @@ use secondcoop_tests::dijkstra;
 use secondcoop_tests::generate::Plan;
 use secondcoop_tests::guarded::GUARD;
 use secondcoop_tests::jobs::{self, Job};
-use secondcoop_tests::planner::{Answer, HOUSE_SCHEDULE, MOST_OPINION, NO_OPINION, UNREACHED};
+use secondcoop_tests::planner::{Answer, MOST_OPINION, NO_OPINION, UNREACHED};
 use secondcoop_tests::planners::{self, Library, Outcome, Planner, SecondPlanner};
 use secondcoop_tests::random::Random;
 
 const BOTH: [&dyn Planner; 2] = [&Library, &SecondPlanner];
-
-/// The rounds' factors that a job is planned with.
-fn schedule(job: &Job) -> &[u32] {
-    match &job.schedule[..] {
-        [] => &HOUSE_SCHEDULE,
-        schedule => schedule,
-    }
-}
-
-/// A job with room for all its turns in the log.
-fn with_whole_log(job: &Job) -> Job {
-    let rounds = schedule(job).len() / 2;
-    let log_room = 2 * job.anchor.len() * rounds;
-    Job {
-        log_room,
-        ..job.clone()
-    }
-}
-
-/// Table and vertex of each turn; the job has room for all of them.
-fn turns(outcome: &Outcome) -> Vec<(usize, usize)> {
-    let [.., turns, _] = outcome.figures;
-    outcome.log[GUARD..GUARD + turns as usize]
-        .iter()
-        .map(|word| (*word as usize >> 16, *word as usize & 0xFFFF))
-        .collect()
-}
 
 /// No guide expands a vertex that it has no opinion on; the anchor does, and
 /// other guides do.
@@ -46,10 +19,11 @@ fn no_guide_expands_where_it_has_no_opinion() {
     for planner in BOTH {
         let (mut by_guides, mut by_anchor, mut by_others) = (0, 0, 0);
         jobs::valid_jobs(31, 6_000, &mut |_, job| {
-            let job = with_whole_log(job);
+            let job = job.with_whole_log();
             let sheets: Vec<&[u32]> = job.guides.chunks_exact(job.anchor.len()).collect();
             let outcome = planners::run(planner, &job, 1);
-            for (table, vertex) in turns(&outcome) {
+            for (table, vertex) in outcome.turns() {
+                let (table, vertex) = (table as usize, vertex as usize);
                 let lacks = sheets.iter().any(|sheet| sheet[vertex] == NO_OPINION);
                 if table == 0 {
                     by_anchor += u64::from(lacks);
@@ -89,7 +63,7 @@ fn without_any_opinion_as_without_guides() {
     for planner in BOTH {
         let (mut count, mut routes) = (0, 0);
         let mut check = |plan: &Plan, job: &Job| {
-            let mut empty = with_whole_log(job);
+            let mut empty = job.with_whole_log();
             if empty.guide_count == 0 {
                 return;
             }
@@ -101,7 +75,7 @@ fn without_any_opinion_as_without_guides() {
             };
             let outcome = planners::run(planner, &empty, 2);
             let other = planners::run(planner, &without, 2);
-            assert!(turns(&outcome).iter().all(|&(table, _)| table == 0));
+            assert!(outcome.turns().iter().all(|&(table, _)| table == 0));
             assert_eq!(outcome.figures, other.figures, "{job:?}");
             assert_eq!((&outcome.route, &outcome.log), (&other.route, &other.log));
             assert_eq!((&outcome.work, &outcome.wide), (&other.work, &other.wide));
@@ -174,7 +148,7 @@ fn most_key(plan: &Plan, job: &Job, w1: u32) -> u128 {
 
 /// Whether a guide expands no vertex at the greatest number in any round.
 fn is_near(plan: &Plan, job: &Job) -> bool {
-    schedule(job).chunks_exact(2).all(|factors| {
+    job.factors().chunks_exact(2).all(|factors| {
         let key = u128::from(factors[0]) * u128::from(MOST_OPINION);
         100 * key > u128::from(factors[1]) * most_key(plan, job, factors[0])
     })

@@ -66,10 +66,7 @@ fn check(planner: &dyn Planner, plan: &Plan, job: &Job, met: &mut Met) {
                 untouched[GUARD + vertices..]
             );
             assert_eq!(outcome.route[..GUARD], untouched[..GUARD]);
-            let schedule = match job.schedule.len() {
-                0 => &planner::HOUSE_SCHEDULE,
-                _ => &job.schedule[..],
-            };
+            let schedule = job.factors();
             let last = rounds as usize - 1;
             assert_eq!(bound, schedule[2 * last] * schedule[2 * last + 1]);
             assert!(10_000 * u128::from(cost) <= u128::from(bound) * u128::from(least));

@@ -1,7 +1,7 @@
 //! Jobs of any size through `run`: the bench program's words within its
 //! limits, the planner call beyond them, and what is said of a refusal.
 
-use secondcoop_tests::bench_text::{answer_text, logged, MOST_BENCH_EDGES, MOST_BENCH_VERTICES};
+use secondcoop_tests::bench_text::{answer_text, MOST_BENCH_EDGES, MOST_BENCH_VERTICES};
 use secondcoop_tests::generate;
 use secondcoop_tests::guarded::GUARD;
 use secondcoop_tests::input::Input;
@@ -16,9 +16,7 @@ use secondcoop_tests::text::{pairs_text, TextJob};
 fn call_text(job: &Job) -> String {
     let outcome = planners::run(&Library, job, 0);
     let lent = |all: &[u32]| all[GUARD..all.len() - GUARD].to_vec();
-    let [.., turns, _] = outcome.figures;
-    let turns = logged(&lent(&outcome.log), turns as usize);
-    answer_text(&outcome.answer(), &lent(&outcome.route), &turns)
+    answer_text(&outcome.answer(), &lent(&outcome.route), &outcome.turns())
 }
 
 /// The first remark has the refusal that is printed, and what is planned has

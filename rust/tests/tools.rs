@@ -84,7 +84,7 @@ fn the_line_of_the_wrong_length_is_blamed() {
     let text = with("job-a.txt", "anchor 6 5 3 0", "anchor 6 5 3");
     let words = "standard input: line 14: the anchor table has 3 numbers, and the plan has 4 \
                  places\n";
-    for command in ["check", "run", "print", "bytes"] {
+    for command in ["check", "run", "print", "lead", "bytes"] {
         assert_eq!(job(&[command], &text), left(4, "", words));
     }
 }
@@ -321,7 +321,9 @@ fn help_is_printed() {
     ] {
         let left = job(arguments, "");
         assert_eq!((left.status, left.err.as_str()), (0, ""), "{arguments:?}");
-        for command in ["run", "check", "print", "bytes", "hex", "text", "describe"] {
+        for command in [
+            "run", "check", "print", "lead", "bytes", "hex", "text", "describe",
+        ] {
             assert!(left.out.contains(&format!(" job {command} ")), "{command}");
         }
         // The second planner is named where it is used.
@@ -356,7 +358,7 @@ fn standard_input_is_read() {
     for name in ["job-a", "wall", "no-route", "refusal-13"] {
         let path = example(&format!("{name}.txt"));
         let path = path.to_str().expect("a path");
-        for command in ["run", "check", "print", "bytes", "hex", "text"] {
+        for command in ["run", "check", "print", "lead", "bytes", "hex", "text"] {
             let program = env!("CARGO_BIN_EXE_job");
             let of_file = output(program, &[command, path], b"");
             let text = fs::read(path).expect("an example");
@@ -578,6 +580,7 @@ fn the_exit_status_tells_the_ending() {
         ("yard", 0),
         ("no-opinion", 0),
         ("no-way-through", 0),
+        ("silly-guide", 0),
         ("no-route", 1),
         ("refusal-01", 3),
         ("refusal-13", 3),
@@ -597,6 +600,68 @@ fn the_exit_status_tells_the_ending() {
     let cut = with("job-a.txt", "allowance 100", "allowance 1");
     let printed = "turn 1 table 1 place 0\nunfinished turns 1\n";
     assert_eq!(job(&["run"], cut), left(2, printed, ""));
+}
+
+/// Each turn with its key and its lead, then how near they came.
+#[test]
+fn the_lead_is_told_turn_by_turn() {
+    let lines = "\
+turn 1 table 1 place 0 round 1: cost 0, number 0, key 0 of at most 12
+turn 2 table 1 place 4 round 1: cost 4, number 0, key 4 of at most 12
+turn 3 table 1 place 5 round 1: cost 8, number 0, key 8 of at most 12
+turn 4 table 1 place 6 round 1: cost 12, number 0, key 12 of at most 12
+turn 5 table 0 place 1 round 1: cost 0, number 4, key 8 of at most 8
+turn 6 table 0 place 2 round 1: cost 2, number 2, key 6 of at most 8
+the cheapest chain costs 4; the guides came exactly to their lead, 3 times that, in turn 4; \
+the anchor came exactly to its lead, 2 times that, in turn 5
+";
+    assert_eq!(job(&["lead"], read("silly-guide.txt")), left(0, lines, ""));
+    let bytes = fs::read(example("silly-guide.job")).expect("an example");
+    assert_eq!(job(&["lead"], bytes), left(0, lines, ""));
+    // Factors and shares that are no whole numbers.
+    let odd = with("silly-guide.txt", "round 200 150", "round 133 101");
+    let lines = "\
+turn 1 table 1 place 0 round 1: cost 0, number 0, key 0 of at most 5.3732
+turn 2 table 1 place 4 round 1: cost 4, number 0, key 4 of at most 5.3732
+turn 3 table 0 place 1 round 1: cost 0, number 4, key 5.32 of at most 5.32
+turn 4 table 0 place 2 round 1: cost 2, number 2, key 4.66 of at most 5.32
+the cheapest chain costs 4; the guides came to at most 74.45% of their lead, 1.3433 times that, \
+in turn 2; the anchor came exactly to its lead, 1.33 times that, in turn 3
+";
+    assert_eq!(job(&["lead"], odd), left(0, lines, ""));
+}
+
+/// Rounds are told too, and no turns, no chain, a cut and refusals.
+#[test]
+fn the_lead_of_other_endings() {
+    let lead = |text: String| job(&["lead"], text);
+    let second = "turn 3 table 0 place 1 round 2: cost 1, number 5, key 6 of at most 6\n";
+    let whole = lead(read("job-a.txt"));
+    assert!(whole.out.contains(second), "{}", whole.out);
+    // Unfinished: the turns that were taken.
+    let cut = lead(with("job-a.txt", "allowance 100", "allowance 1"));
+    let first = whole.out.lines().next().expect("a turn");
+    let near =
+        "the cheapest chain costs 6; the guides came to at most 0.00% of their lead, 4 times \
+                that, in turn 1; the anchor had no turn";
+    assert_eq!(cut, left(2, &format!("{first}\n{near}\n"), ""));
+    let none = "the cheapest chain costs 0; the guides had no turn; the anchor had no turn\n";
+    assert_eq!(lead(read("start-is-goal.txt")), left(0, none, ""));
+    let none = "no chain of permitted lanes leads from start to goal, so there is no lead\n";
+    assert_eq!(lead(read("no-route.txt")), left(1, none, ""));
+    let barred = with("ramp.txt", "barred 0", "barred 255");
+    assert_eq!(lead(barred.clone()), left(1, none, ""));
+    let cut = barred.replace("allowance 1000", "allowance 0");
+    assert_ne!(cut, barred);
+    assert_eq!(lead(cut), left(2, none, ""));
+    for number in [1, 8, 12, 13, 14, 15] {
+        let text = read(&format!("refusal-{number:02}.txt"));
+        assert_eq!(lead(text.clone()), job(&["run"], text));
+    }
+    // What is proved is told where it is used.
+    let help = job(&["--help"], "").out;
+    assert!(help.contains("Turns and rounds\nare the proved library's; "));
+    assert!(help.contains("tested and not proved.\n"), "{help}");
 }
 
 /// By text and by bytes.
@@ -635,6 +700,14 @@ fn jobs_beyond_the_bench_program_are_planned() {
         assert!(check.out.starts_with(size), "{}", check.out);
         let end = "; too large for the bench program, 'job run' plans it\n";
         assert!(check.out.ends_with(end), "{}", check.out);
+    }
+    let lead = job(&["lead"], &bytes);
+    assert_eq!((lead.status, lead.err.as_str()), (status, ""));
+    let turns = printed.lines().filter(|line| line.starts_with("turn "));
+    if status == 0 {
+        let lines = lead.out.lines().zip(turns.clone());
+        let shown = lines.filter(|(lead, turn)| lead.starts_with(&format!("{turn} round ")));
+        assert_eq!(shown.count(), turns.count());
     }
     // Its refusals are those of the planner call.
     large.anchor[1] = 1;

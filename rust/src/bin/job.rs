@@ -7,6 +7,7 @@ use std::ffi::OsStr;
 use std::process::ExitCode;
 
 use secondcoop_tests::input::{name_of, Input};
+use secondcoop_tests::lead;
 use secondcoop_tests::planner::HOUSE_SCHEDULE;
 use secondcoop_tests::planners::{self, Library, Planner, SecondPlanner};
 use secondcoop_tests::reference::LAST_REFUSAL;
@@ -21,6 +22,8 @@ usage: job run FILE         plans the job with the proved library; prints its tu
                             route, no route, unfinished or the refusal
        job check FILE       says what is wrong with the job, and in which lines
        job print FILE       as run, but by the second planner, which is tested and not proved
+       job lead FILE        as run, but says of each turn how dear its place is and how dear it
+                            may be, and last how near guides and anchor came to that
        job bytes FILE       the job's bytes, as the bench program reads them
        job hex FILE         the job's bytes as hexadecimal pairs
        job text FILE        the job's text form
@@ -30,8 +33,12 @@ where nobody types.
 In a text the word - in the line of a guide sheet stands where that guide has no opinion on the
 place, which is the number 4294967295 there; it never expands such a place, and a turn for which
 it has no place goes to the anchor. The anchor table has a number for every place.
-The bench program takes up to 256 places, 2048 lanes and 32768 bytes; run, check and print take
-what the planner call takes, up to 4096 places and 32768 lanes.
+The lead: a guide expands a place only if its key, cost + w1 * number, is at most w1 * w2 times the
+cost of the cheapest chain, and the anchor only if it is at most w1 times that. Turns and rounds
+are the proved library's; the places' costs in each turn and the cheapest chain are reckoned by
+code that is tested and not proved.
+The bench program takes up to 256 places, 2048 lanes and 32768 bytes; run, check, print and lead
+take what the planner call takes, up to 4096 places and 32768 lanes.
 Exit status: 0 a route, or done; 1 no route; 2 unfinished; 3 refused, with the reason in plain
 words; 4 nothing was done: wrong use, a file or a line that cannot be read or said in bytes, or
 output that cannot be written.
@@ -147,6 +154,19 @@ impl Read {
         }
     }
 
+    /// What the library's turns are beside their leads; a refusal as it is.
+    fn lead(&self) -> Done {
+        let done = self.run(&Library);
+        if done.status == REFUSED {
+            return done;
+        }
+        let job = run::asked(&self.job).expect("a job that is planned");
+        Done {
+            output: lead::text(&Library, &job).into_bytes(),
+            ..done
+        }
+    }
+
     /// Another form of the job. A refused job has them too: what is wrong
     /// with it is said beside.
     fn form(&self, output: impl Into<Vec<u8>>) -> Done {
@@ -183,6 +203,7 @@ fn on_file(command: &str, path: Option<&OsStr>) -> Done {
         "run" => |read| read.run(&Library),
         "check" => Read::check,
         "print" => |read| read.run(&SecondPlanner),
+        "lead" => Read::lead,
         "bytes" => |read| read.form(read.job.bytes()),
         "hex" => |read| read.form(pairs_text("", &read.job.bytes())),
         "text" => |read| read.form(read.job.to_string()),
