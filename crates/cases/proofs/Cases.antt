@@ -102,7 +102,7 @@ computed = (
     anchor-number = record { says = refl; leaves = refl };
     anchor-number-guided = refl;
   },
-  record { job-A = refl; job-A-at-3 = refl; reached = refl; beyond = refl },
+  record { job-A = refl; job-A-at-3 = refl; reached = refl; reached-at-2 = refl; beyond = refl },
 )
 
 pub all-cases : Cases

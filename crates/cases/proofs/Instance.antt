@@ -1,4 +1,4 @@
--- Job A, job A with a barred lane, a job without any opinion and job B are admitted, and the guarantee bounds the cost of every walk.
+-- Job A, job A with a barred lane, a job without any opinion, a blind alley and job B are admitted, and the guarantee bounds the cost of every walk.
 use mathlib.Core.Path.{_≡_, refl, ap, subst}
 use mathlib.Core.List.{List, [], _∷_, map, List·Memᴰ, List·Memᴰ·head, List·Memᴰ·tail}
 use Prim.Native.Nat.{ℕ, _*_, _≤_}
@@ -23,9 +23,9 @@ use Rattle.cases.specs.Lead.{Shown, shown, turnsOf, alley}
 use Rattle.cases.specs.Instance.{Instance}
 use Rattle.cases.proofs.Cases.{all-cases, apart, barred, opinion, lead}
 
-admits : (faultOf (jobA 100) ≡ none) × (faultOf jobB ≡ none) × (faultOf (rampA 2) ≡ none) × (faultOf silentFork ≡ none) × (faultOf (alley 24 12) ≡ none)
+admits : (faultOf (jobA 100) ≡ none) × (faultOf jobB ≡ none) × (faultOf (rampA 2) ≡ none) × (faultOf silentFork ≡ none) × (faultOf (alley 24 12 100) ≡ none) × (faultOf (alley 24 12 2) ≡ none)
 unfolding Number.decode more answered read planGroups vertexCountRows edgeCountRows tailRows headRows costRows classRows through throughAll takeNumber taking leastAfter past nextEdge before onward edgesFrom header afterHeader decode inForce scheduleOf outOfRange rising row first endsRow tablesRow scheduleRow memoryRow goalRow edgesRow faultIn faultOf
-admits = (refl, refl, refl, refl, refl)
+admits = (refl, refl, refl, refl, refl, refl)
 
 holds : Guarantee (jobOf (jobA 100)) 100 (outcome (jobA 100)) (answer (jobA 100)) (memoryAfter (jobA 100))
 holds = guaranteed (jobA 100) .guarantee (admits .0)
@@ -68,10 +68,11 @@ instance =
       edges = refl;
       guarantee = holds;
       bounded = bounded-by (jobA 100) (admits .0) (all-cases .job-A .says);
-      led = λ r n w. let l = led-by (jobA 100) (admits .0) (lead .job-A) r n w in (l .0 .0, l .1 .0 .0, l .1 .1 .0 .1 refl, l .1 .1 .1 .0 .0);
+      led = λ r n w. let l = led-by (jobA 100) (admits .0) (lead .job-A) r n w in (l .0 .0, omega (arith, l .1 .0 .0), omega (arith, l .1 .1 .0 .1 refl), omega (arith, l .1 .1 .1 .0 .0));
       permitted-edges = refl;
       barred = λ r n w. omega (arith, bounded-by (rampA 2) (admits .2) (barred .ramp .says) r n w);
       silent = bounded-by silentFork (admits .3) (opinion .silent-fork .says);
-      alley-led = λ r n w. let l = led-by (alley 24 12) (admits .4) (lead .reached) r n w in (l .1 .0 .0, l .1 .1 .0 .1 refl);
+      alley-led = λ r n w. let l = led-by (alley 24 12 100) (admits .4) (lead .reached) r n w in (omega (arith, l .1 .0 .0), omega (arith, l .1 .1 .0 .1 refl));
+      alley-cut = λ r n w. omega (arith, led-by (alley 24 12 2) (admits .5) (lead .reached-at-2) r n w .1 .0 .0);
       any-rule = other;
     }

@@ -1,4 +1,4 @@
--- Instances of the guarantee: job A, job A with a barred lane, a job whose guide has no opinion at all, and job B under another rule for whose turn it is. Proved in proofs/Instance.antt.
+-- Instances of the guarantee: job A, job A with a barred lane, a job whose guide has no opinion at all, a blind alley that its guide goes into, and job B under another rule for whose turn it is. Proved in proofs/Instance.antt.
 use Prim.Native.Nat.{ℕ, _*_, _≤_}
 use mathlib.Core.Path.{_≡_}
 use mathlib.Core.List.{List, [], _∷_}
@@ -38,6 +38,8 @@ pub record Instance : Type 0 where
   -- with a sheet made wholly of 4,294,967,295 the bound is 100, and the kept cost 47,999,900
   pub silent : (r : List ℕ) (n : ℕ) → Joins (jobOf silentFork) r n → 10000 * 47999900 ≤ 1000000 * n
   -- a guide that expands a blind alley at cost 24, where w1·w2 = 6, and the anchor's turn beside it
-  pub alley-led : (r : List ℕ) (n : ℕ) → Joins (jobOf (alley 24 12)) r n → (100 * 2400 ≤ 200 * 300 * n) × (800 ≤ 200 * n)
+  pub alley-led : (r : List ℕ) (n : ℕ) → Joins (jobOf (alley 24 12 100)) r n → (100 * 2400 ≤ 200 * 300 * n) × (800 ≤ 200 * n)
+  -- from the guide's turns alone, in a round that is cut: no chain costs less than 4
+  pub alley-cut : (r : List ℕ) (n : ℕ) → Joins (jobOf (alley 24 12 2)) r n → 4 ≤ n
   -- so it does of job B where guide 3 has every turn, whose kept cost is 4
   pub any-rule : (r : List ℕ) (n : ℕ) → Joins jobB3 r n → 10000 * 4 ≤ 10000 * n
