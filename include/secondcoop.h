@@ -309,11 +309,11 @@ enum {
  * number on that sheet at most w1*w2 times the cost of the cheapest chain,
  * and one that is expanded for the anchor has cost + w1 * its anchor number
  * at most w1 times it (w1 and w2 are the round's, W1 and W2 over 100; the cost
- * is the place's in that turn). This is Theorem 12 of Aine, Swaminathan,
- * Narayanan, Hwang and Likhachev, Multi-Heuristic A* (the full report on what
- * they first published in 2014), over all rounds. On the house schedule no
- * guide goes to a place dearer than 25, 9, 4, 2.25, 1.44 and 1 times the
- * cheapest chain, round by round.
+ * is the place's in that turn). This is Theorem 12, and for the anchor
+ * Theorem 9, of Aine, Swaminathan, Narayanan, Hwang and Likhachev,
+ * Multi-Heuristic A* (the full report on what they first published in 2014),
+ * over all rounds. On the house schedule no guide expands a place dearer than
+ * 25, 9, 4, 2.25, 1.44 and 1 times the cheapest chain, round by round.
  *
  * Lent memory, in 32-bit words but for wide:
  * - route, at least V words: the places from start to goal, then

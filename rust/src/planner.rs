@@ -295,10 +295,12 @@ pub enum Fault {
     GuideByFirstLeast,
     /// The anchor expands the lowest open vertex, whatever its key.
     AnchorLowest,
+    /// g(goal) must be at most half the bound: the goal is expanded before.
+    FinishLate,
 }
 
 /// All faults.
-pub const FAULTS: [Fault; 50] = [
+pub const FAULTS: [Fault; 51] = [
     Fault::CostOfGoal,
     Fault::OpenAgain,
     Fault::Forgotten,
@@ -349,6 +351,7 @@ pub const FAULTS: [Fault; 50] = [
     Fault::GuideByGoal,
     Fault::GuideByFirstLeast,
     Fault::AnchorLowest,
+    Fault::FinishLate,
 ];
 
 /// Who looks on at a search: counts its events, or plants a fault.
@@ -700,7 +703,11 @@ impl<O: Onlooker> Search<'_, O> {
             false => factors.w2,
         };
         let strict = u64::from(self.onlooker.has(Fault::FinishStrict));
-        goal_cost != unreached(&self.onlooker) && 10_000 * goal_cost + strict <= factor * m
+        let hundredths = match self.onlooker.has(Fault::FinishLate) {
+            true => 20_000,
+            false => 10_000,
+        };
+        goal_cost != unreached(&self.onlooker) && hundredths * goal_cost + strict <= factor * m
     }
 
     /// The anchor's least key and its vertex: every number of its table is

@@ -180,13 +180,13 @@ fn no_opinion_is_one_number() {
 }
 
 /// The header's figures for the house schedule: in each of its rounds a guide
-/// goes into a blind alley up to exactly so many times the cheapest chain, and
-/// not to a place dearer by 1.
+/// expands a place of a blind alley at exactly so many times the cheapest
+/// chain, and none dearer by 1.
 #[test]
 fn a_guide_goes_as_far_as_the_header_says() {
     let header = read("include/secondcoop.h").replace("\n * ", " ");
     let (_, rest) = header
-        .split_once("no guide goes to a place dearer than ")
+        .split_once("no guide expands a place dearer than ")
         .expect("a sentence");
     let (figures, _) = rest
         .split_once(" times the cheapest chain")

@@ -537,10 +537,10 @@ fn without_a_chain_there_is_no_lead() {
 /// `OpinionOfZero`), some do not let the anchor have the place of its least
 /// key (`AnchorMarksStay`, `OpinionForAnchor`). These jobs tell no others, and
 /// most of them keep all turns on the lead: it does not matter to it what is
-/// handed over, when a round finishes, which guide has the turn, whether a
-/// number is an opinion, and what else guides leave to the anchor. `Forgotten`
-/// has a job of its own below.
-const OFF_THE_LEAD: [Fault; 13] = [
+/// handed over, whether a round finishes by < or by W1, which guide has the
+/// turn, whether a number is an opinion, and what else guides leave to the
+/// anchor. `Forgotten` has a job of its own below.
+const OFF_THE_LEAD: [Fault; 14] = [
     Fault::AnchorMarksStay,
     Fault::NextClass,
     Fault::ClassOfCost,
@@ -554,6 +554,7 @@ const OFF_THE_LEAD: [Fault; 13] = [
     Fault::GuideByCost,
     Fault::GuideByGoal,
     Fault::AnchorLowest,
+    Fault::FinishLate,
 ];
 
 /// Jobs that are enough to find a fault.
