@@ -41,5 +41,5 @@ pub record Instance : Type 0 where
   pub alley-led : (r : List ℕ) (n : ℕ) → Joins (jobOf (alley 24 12 100)) r n → (100 * 2400 ≤ 200 * 300 * n) × (800 ≤ 200 * n)
   -- from the guide's turns alone, in a round that is cut: no chain costs less than 4
   pub alley-cut : (r : List ℕ) (n : ℕ) → Joins (jobOf (alley 24 12 2)) r n → 4 ≤ n
-  -- so it does of job B where guide 3 has every turn, whose kept cost is 4
+  -- the bound of job B where guide 3 has every turn, whose kept cost is 4
   pub any-rule : (r : List ℕ) (n : ℕ) → Joins jobB3 r n → 10000 * 4 ≤ 10000 * n
