@@ -703,11 +703,11 @@ impl<O: Onlooker> Search<'_, O> {
             false => factors.w2,
         };
         let strict = u64::from(self.onlooker.has(Fault::FinishStrict));
-        let hundredths = match self.onlooker.has(Fault::FinishLate) {
+        let times = match self.onlooker.has(Fault::FinishLate) {
             true => 20_000,
             false => 10_000,
         };
-        goal_cost != unreached(&self.onlooker) && hundredths * goal_cost + strict <= factor * m
+        goal_cost != unreached(&self.onlooker) && times * goal_cost + strict <= factor * m
     }
 
     /// The anchor's least key and its vertex: every number of its table is
