@@ -15,7 +15,7 @@ use Rattle.graph.specs.Plan.{Decoded, accepted, refused, header, afterHeader, d
 use Rattle.graph.specs.Lists.{Fault, edgesIn}
 use Rattle.graph.proofs.Tests.{or-left, or-right, and-true, not-false}
 use Rattle.plan_check.proofs.Checked.{sized-by}
-use Rattle.search.specs.Call.{row, first, endsRow, tablesRow, scheduleRow, memoryRow, goalRow, edgesRow, faultIn, faultOf, planEdges, jobIn, jobFrom, jobOf}
+use Rattle.search.specs.Call.{unfitSchedule, row, first, endsRow, tablesRow, scheduleRow, memoryRow, goalRow, edgesRow, faultIn, faultOf, planEdges, jobIn, jobFrom, jobOf}
 use Rattle.admission.specs.declared.Query.{Query}
 use Rattle.admission.specs.declared.Lengths.{Lengths}
 use Rattle.admission.specs.declared.Verdict.{Verdict}
@@ -70,8 +70,8 @@ module _
 
   by-rows :
       (r : Verdict) →
-      r ≡ verdict v m at (first (row ends 8 0 ∷ row tables 9 0 ∷ scheduleRow schedule ∷ row memory 11 0 ∷ last)) → Is r
-  unfolding verdictOf firstEdgeAt planEdges faultOf faultIn jobOf jobFrom jobIn endsRow tablesRow memoryRow goalRow edgesIn
+      r ≡ verdict v m at (first (row ends 8 0 ∷ row tables 9 0 ∷ row (unfitSchedule schedule) 10 0 ∷ row memory 11 0 ∷ last)) → Is r
+  unfolding verdictOf firstEdgeAt planEdges faultOf faultIn jobOf jobFrom jobIn endsRow tablesRow scheduleRow memoryRow goalRow edgesIn
   by-rows r e =
       record {
         decided =
@@ -105,7 +105,7 @@ module _
       unfolding verdict first row
       call-9 t = by-rows (Refused 9 0) (rw (sym e8, f8, sym e9, t))
 
-      module _ (f9 : b9 ≡ false) (b10 : Bool) (e10 : row b10 10 0 ≡ scheduleRow schedule) where
+      module _ (f9 : b9 ≡ false) (b10 : Bool) (e10 : b10 ≡ unfitSchedule schedule) where
         pub call-10 : b10 ≡ true → Is (Refused 10 0)
         unfolding verdict first row
         call-10 t = by-rows (Refused 10 0) (rw (sym e8, f8, sym e9, f9, sym e10, t))

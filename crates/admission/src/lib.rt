@@ -2,8 +2,6 @@
 mod consistency;
 mod rows;
 
-ghost use Prim.Native.Nat.{_<_};
-ghost use lib.ListN.{length};
 ghost use Rattle.admission.specs.Admission.{Decided};
 use graph::Header;
 use graph::PlanRead;
@@ -33,7 +31,7 @@ pub enum Verdict {
 }
 
 // The verdict on a planner call: refused for its first fault, those of the plan (1 to 7, 15) before the rows 8
-// to 13; or admitted. The schedule is the one in force, which is never empty.
+// to 13; or admitted. The schedule is the one in force.
 pub fn decide(
     bytes: &[u8],
     q: Query,
@@ -42,7 +40,6 @@ pub fn decide(
     schedule: &[u32],
     lengths: Lengths,
 ) -> Verdict
-    requires { ⌜ 0 < length (now schedule) ⌝ }
     ensures { λ r. ⌜ Decided (now (bytes .entry)) q (now (anchor .entry)) (now (guides .entry)) (now (schedule .entry)) lengths r ⌝ }
 {
     match plan_check::header(bytes) {

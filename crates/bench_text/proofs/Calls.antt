@@ -7,6 +7,7 @@ use mathlib.Core.List.{List}
 use lib.ListN.{length, take, drop, replicate, length-drop, length-replicate}
 use lib.Seq.{sets, sets-eq, length-sets, length-take-le, take-at, take-all}
 use Rattle.search.specs.declared.Answer.{Answer}
+use Rattle.search.specs.Job.{standard}
 use Rattle.search.specs.Call.{Call}
 use Rattle.search.specs.Outcome.{figures, answer, memoryAfter}
 use Rattle.job.specs.declared.Front.{Front}
@@ -17,6 +18,9 @@ use Rattle.job.specs.Asked.{factorsOf, tablesOf, anchorOf, sheetsOf, callWith, 
 use Rattle.job.specs.Printed.{printed, callText}
 use Rattle.job.proofs.Accepted.{accepted-ready}
 use Rattle.job.specs.Texts.{Texts}
+use Rattle.schedule.specs.declared.default_schedule.DefaultSchedule.{DefaultSchedule}
+use Rattle.schedule.specs.Loading.{pairsIn, atFirst}
+use Rattle.schedule.proofs.Loading.{loads, standard-fits}
 use Rattle.bench_text.specs.Stored.{Stored}
 
 -- ---- numbers stored at an array's front
@@ -35,6 +39,17 @@ stored-prefix old new vs n size room stored =
       is = ap (take n) (stored ∙ sets-eq vs old 0 (omega arith)) ∙ take-at vs (drop (0 + length vs) old) n size;
       fits = fits;
       size = sym (length-take-le n new fits);
+    }
+
+-- our own default schedule, at the front of its array
+pub standard-prefix : (d : DefaultSchedule) → d ≡ atFirst → Prefix (d .count) (d .numbers) standard
+unfolding pairsIn
+standard-prefix d e =
+    let fits : d .count ≤ length (d .numbers) = standard-fits d e in
+    record {
+      is = ap pairsIn e ∙ loads .first;
+      fits = fits;
+      size = sym (length-take-le (d .count) (d .numbers) fits);
     }
 
 -- ---- an accepted job

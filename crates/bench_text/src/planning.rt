@@ -8,6 +8,7 @@ ghost use Rattle.job.specs.Texts.{Texts};
 ghost use Rattle.bench_text.specs.Stored.{Stored};
 use job::Front;
 use job_reader::storing;
+use schedule::default_schedule::DefaultSchedule;
 
 // Words of lent memory: a schedule of 16 rounds, an anchor table and 8 guide sheets of 256 numbers; route
 // memory, a log, work memory for 256 vertices and 2,048 edges, and the numbers of the wide work memory.
@@ -23,7 +24,7 @@ const WORK: usize = 6913;
 
 const WIDE: usize = 512;
 
-// The planner call, and what it hands over printed.
+// The planner call on our own default schedule, and what it hands over printed.
 fn plan_call(
     out: &mut [u8],
     plan: &[u8],
@@ -39,6 +40,9 @@ fn plan_call(
     let mut work = [0u32; WORK];
     let mut wide = [0u64; WIDE];
     let ends = front.ends;
+    let standard = DefaultSchedule::standard();
+    let numbers = standard.numbers;
+    let count = standard.count as usize;
     let answer = planner::plan(
         plan,
         ends.start,
@@ -48,6 +52,7 @@ fn plan_call(
         sheets,
         front.guide_count,
         schedule,
+        &numbers[..count],
         ends.budget,
         &mut route,
         &mut log,

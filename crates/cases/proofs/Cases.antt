@@ -1,4 +1,4 @@
--- The table of document 01's (p) cases, the jobs that tell its rules from others, and the cases of barred classes, of costs, of no opinion and of the lead.
+-- The table of document 01's (p) cases, the jobs that tell its rules from others, and the cases of barred classes, of costs, of no opinion, of the lead and of the default schedule.
 use mathlib.Core.Path.{refl}
 use Rattle.leb128.specs.Number.{planGroups, more, answered, read, encode}
 use Rattle.leb128.specs.Number
@@ -7,10 +7,10 @@ use Rattle.graph.specs.Plan.{leastAfter, past, nextEdge, before, onward, edgesF
 use Rattle.graph.specs.Lists.{over, roomFor, readAs, edgesIn, readAnswer, listAfter, edgesOf, listRows, edgeRows, edgesFault, writeFault, edgeBytes, edgesBytes, bytesOf, outAfter}
 use Rattle.search.specs.Walk.{edgeCost, onEdge, costFrom, routeCost}
 use Rattle.search.specs.Permitted.{barredBy, permitted}
-use Rattle.search.specs.Job.{cyclic, guides, heuristic, factors, house, unreached, noPred, routeEnd, noOpinion, fresh, origin, atFirst, at}
+use Rattle.search.specs.Job.{cyclic, guides, heuristic, factors, standard, unreached, noPred, routeEnd, noOpinion, fresh, origin, atFirst, at}
 use Rattle.search.specs.Turn.{key, offered, better, leastFrom, least, stepOne, candidate, choose, marked, lowered, relax, relaxAll, expand}
 use Rattle.search.specs.Rounds.{firstTurn, nextTurn, turned, ended, inHand, step, choice, turn, trace, traced, improves, costOr, reopened, endRound, onFinished, settle, settled, begin, onDue, advance, run, moments, search}
-use Rattle.search.specs.Call.{inForce, scheduleOf, outOfRange, rising, pairs, row, first, endsRow, tablesRow, scheduleRow, memoryRow, goalRow, edgesRow, faultIn, faultOf, planEdges, tables, jobIn, jobFrom, jobOf}
+use Rattle.search.specs.Call.{inForce, scheduleOf, outOfRange, rising, unfitSchedule, pairs, row, first, endsRow, tablesRow, scheduleRow, memoryRow, goalRow, edgesRow, faultIn, faultOf, planEdges, tables, jobIn, jobFrom, jobOf}
 use Rattle.search.specs.Outcome.{bound, summary, cutShort, answerAt, answerOf, figures, routeWords, routeAfter, logWord, logAfter, edgesBelow, firstEdges, markWord, twoEach, workWords, outcome, answerIn, answer, memoryIn, memoryAfter}
 use Rattle.job.proofs.JobA.{prints-A}
 use Rattle.cases.specs.Cases.{Cases}
@@ -19,14 +19,14 @@ use Rattle.cases.specs.Barred.{Barred}
 use Rattle.cases.specs.Costs.{Costs}
 use Rattle.cases.specs.Opinion.{Opinion}
 use Rattle.cases.specs.Lead.{shown, Lead}
-use Rattle.cases.proofs.Schedules.{house-schedule}
+use Rattle.cases.specs.Defaults.{Defaults}
 use Rattle.cases.proofs.Ends.{plan-refused}
 use Rattle.search.specs.Guarantee.{roundOf, hOf, keyOf, withPick}
 use Rattle.cases.proofs.TwoVertices.{two-vertices}
 use Rattle.cases.proofs.StartIsGoal.{start-is-goal}
 
-computed : Cases × Apart × Barred × Costs × Opinion × Lead
-unfolding Number.decode more answered read planGroups encode vertexCountRows edgeCountRows tailRows headRows costRows classRows through throughAll takeNumber taking leastAfter past nextEdge before onward edgesFrom header afterHeader decode sizes over roomFor readAs edgesIn readAnswer listAfter edgesOf listRows edgeRows edgesFault writeFault edgeBytes edgesBytes bytesOf outAfter edgeCost onEdge costFrom routeCost barredBy permitted cyclic guides heuristic factors house unreached noPred routeEnd noOpinion fresh origin atFirst at key offered better leastFrom least stepOne candidate choose marked lowered relax relaxAll expand firstTurn nextTurn turned ended inHand step choice turn trace traced improves costOr reopened endRound onFinished settle settled begin onDue advance run moments search inForce scheduleOf outOfRange rising pairs row first endsRow tablesRow scheduleRow memoryRow goalRow edgesRow faultIn faultOf planEdges tables jobIn jobFrom jobOf bound summary cutShort answerAt answerOf figures routeWords routeAfter logWord logAfter edgesBelow firstEdges markWord twoEach workWords outcome answerIn answer memoryIn memoryAfter roundOf hOf keyOf withPick shown
+computed : Cases × Apart × Barred × Costs × Opinion × Lead × Defaults
+unfolding Number.decode more answered read planGroups encode vertexCountRows edgeCountRows tailRows headRows costRows classRows through throughAll takeNumber taking leastAfter past nextEdge before onward edgesFrom header afterHeader decode sizes over roomFor readAs edgesIn readAnswer listAfter edgesOf listRows edgeRows edgesFault writeFault edgeBytes edgesBytes bytesOf outAfter edgeCost onEdge costFrom routeCost barredBy permitted cyclic guides heuristic factors standard unreached noPred routeEnd noOpinion fresh origin atFirst at key offered better leastFrom least stepOne candidate choose marked lowered relax relaxAll expand firstTurn nextTurn turned ended inHand step choice turn trace traced improves costOr reopened endRound onFinished settle settled begin onDue advance run moments search inForce scheduleOf outOfRange rising unfitSchedule pairs row first endsRow tablesRow scheduleRow memoryRow goalRow edgesRow faultIn faultOf planEdges tables jobIn jobFrom jobOf bound summary cutShort answerAt answerOf figures routeWords routeAfter logWord logAfter edgesBelow firstEdges markWord twoEach workWords outcome answerIn answer memoryIn memoryAfter roundOf hOf keyOf withPick shown
 computed = (
   record {
     job-A = record { says = refl; leaves = refl };
@@ -48,7 +48,7 @@ computed = (
     job-C = record { says = refl; leaves = refl };
     guide-3 = refl;
     guide-3-says = refl;
-    house-schedule = house-schedule;
+    six-rounds = refl;
   },
   record {
     ramp = record { says = refl; leaves = refl };
@@ -103,6 +103,22 @@ computed = (
     anchor-number-guided = refl;
   },
   record { job-A = refl; job-A-at-3 = refl; reached = refl; reached-at-2 = refl; beyond = refl },
+  record {
+    usual = record { says = refl; leaves = refl };
+    six = record { says = refl; leaves = refl };
+    own = λ usual. record { says = refl; leaves = refl };
+    one-round = refl;
+    sixteen-rounds = refl;
+    no-round = record { says = refl; leaves = refl };
+    odd = record { says = refl; leaves = refl };
+    seventeen-rounds = record { says = refl; leaves = refl };
+    too-low = record { says = refl; leaves = refl };
+    too-high = record { says = refl; leaves = refl };
+    first-rises = record { says = refl; leaves = refl };
+    second-rises = record { says = refl; leaves = refl };
+    tables-before = refl;
+    before-short = refl;
+  },
 )
 
 pub all-cases : Cases
@@ -122,3 +138,6 @@ opinion = computed .4
 
 pub lead : Lead
 lead = computed .5
+
+pub defaults : Defaults
+defaults = computed .6

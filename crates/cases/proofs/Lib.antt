@@ -1,4 +1,3 @@
-pub mod Schedules
 pub mod Ends
 pub mod TwoVertices
 pub mod StartIsGoal

@@ -13,7 +13,7 @@ use Rattle.graph.specs.Lists.{none, edgesIn}
 use Rattle.search.specs.declared.Factors.{Factors}
 use Rattle.search.specs.declared.Step.the-variants.{Stuck, Due}
 use Rattle.search.specs.Permitted.{permitted}
-use Rattle.search.specs.Job.{State, Job, cyclic, guides, heuristic, factors, house, unreached, noOpinion, noPred, fresh, origin, atFirst, at}
+use Rattle.search.specs.Job.{State, Job, cyclic, guides, heuristic, factors, unreached, noOpinion, noPred, fresh, origin, atFirst, at}
 use Rattle.search.specs.Turn.{key, offered, better, leastFrom, least, stepOne, candidate, choose, marked, relaxAll, expand}
 use Rattle.search.specs.Rounds.{Stand, Moment, firstTurn, nextTurn, turned, inHand, step, choice, turn, onFinished, begin, onDue, advance, run, moments, search}
 use Rattle.search.specs.Call.{Memory, Call, inForce, scheduleOf, pairs, faultOf, planEdges, tables, jobIn, jobFrom, jobOf}
@@ -22,13 +22,12 @@ use Rattle.search.specs.Admitted.{Schedule}
 use Rattle.search.proofs.Admitted.{clear-none}
 use Rattle.search.proofs.Runs.{run-over, moments-over, stuck≢due}
 use Rattle.cases.specs.Cases.{HandsOver, Enough, twoVertices, noRouteAfter, twoVerticesAfter}
-use Rattle.cases.proofs.Schedules.{in-force}
 use Rattle.cases.proofs.Ends.{settled-at, handed}
 
-not-refused : (b : ℕ) → b ≤ 255 → (ws : List ℕ) → Schedule ws → (n : ℕ) (m : Memory) → Enough 2 0 m → faultOf (twoVertices b ws n m) ≡ none
+not-refused : (b : ℕ) → b ≤ 255 → (ws usual : List ℕ) → Schedule (inForce usual ws) → (n : ℕ) (m : Memory) → Enough 2 0 m → faultOf (twoVertices b ws usual n m) ≡ none
 unfolding Number.decode answered read planGroups vertexCountRows edgeCountRows through throughAll takeNumber taking edgesFrom header afterHeader decode faultOf scheduleOf
-not-refused b k ws y n m e =
-    clear-none (twoVertices b ws n m) 2 []
+not-refused b k ws usual y n m e =
+    clear-none (twoVertices b ws usual n m) 2 []
     (record {
       starts = omega arith;
       ends = omega arith;
@@ -36,7 +35,7 @@ not-refused b k ws y n m e =
       few = omega arith;
       anchored = refl;
       guided = refl;
-      schedule = in-force ws y;
+      schedule = y;
       route-room = e .route;
       work-room = e .work;
       wide-room = e .wide;
@@ -110,19 +109,24 @@ module _ (n : ℕ) (m : Memory) (f : Factors) (fs : List Factors) (c : Call) (e 
   unfolding planEdges memoryIn outcome search routeAfter logAfter logWord workWords firstEdges edgesBelow twoEach markWord marked origin fresh unreached noPred
   leaves = rw (e, b, es, lent, runs f fs n, turned-once f fs n)
 
+some-rounds : (ws : List ℕ) → Schedule ws → (f : Factors) × (fs : List Factors) × (pairs ws ≡ f ∷ fs)
+unfolding pairs
+some-rounds [] y = absurd (omega (arith, y .some, y .two))
+some-rounds (u ∷ []) y = absurd (omega (arith, y .two))
+some-rounds (u ∷ v ∷ ws) y = (_, _, refl)
+
 rounds-of :
-    (b : ℕ) (ws : List ℕ) → Schedule ws → (n : ℕ) (m : Memory) → (f : Factors) × (fs : List Factors) × (jobOf (twoVertices b ws n m) ≡ job f fs)
-unfolding Number.decode answered read planGroups vertexCountRows edgeCountRows through throughAll takeNumber taking edgesFrom header afterHeader decode inForce scheduleOf house permitted cyclic pairs tables jobIn jobFrom jobOf
-rounds-of b [] y n m = (_, _, refl)
-rounds-of b (u ∷ []) y n m = absurd (omega (arith, y .two))
-rounds-of b (u ∷ v ∷ ws) y n m = (_, _, refl)
+    (b : ℕ) (ws usual : List ℕ) → Schedule (inForce usual ws) → (n : ℕ) (m : Memory) →
+    (f : Factors) × (fs : List Factors) × (jobOf (twoVertices b ws usual n m) ≡ job f fs)
+unfolding Number.decode answered read planGroups vertexCountRows edgeCountRows through throughAll takeNumber taking edgesFrom header afterHeader decode scheduleOf permitted cyclic tables jobIn jobFrom jobOf
+rounds-of b ws usual y n m = let r = some-rounds (inForce usual ws) y in (r .0, r .1, rw (r .2))
 
 pub two-vertices :
-    (b : ℕ) → b ≤ 255 → (ws : List ℕ) → Schedule ws → (n : ℕ) → 1 ≤ n → (m : Memory) → Enough 2 0 m →
-    HandsOver (twoVertices b ws n m) (noRouteAfter 1) (twoVerticesAfter m)
+    (b : ℕ) → b ≤ 255 → (ws usual : List ℕ) → Schedule (inForce usual ws) → (n : ℕ) → 1 ≤ n → (m : Memory) → Enough 2 0 m →
+    HandsOver (twoVertices b ws usual n m) (noRouteAfter 1) (twoVerticesAfter m)
 unfolding Number.decode answered read planGroups vertexCountRows edgeCountRows through throughAll takeNumber taking edgesFrom header afterHeader decode edgesIn
-two-vertices b k ws y zero h m e = absurd (not-suc-le-zero h)
-two-vertices b k ws y (suc n) h m e =
-    let c : Call = twoVertices b ws (suc n) m in
-    let r = rounds-of b ws y (suc n) m in
-    handed c _ _ (not-refused b k ws y (suc n) m e) (says n m (r .0) (r .1) c (r .2) refl refl refl) (leaves n m (r .0) (r .1) c (r .2) refl refl refl)
+two-vertices b k ws usual y zero h m e = absurd (not-suc-le-zero h)
+two-vertices b k ws usual y (suc n) h m e =
+    let c : Call = twoVertices b ws usual (suc n) m in
+    let r = rounds-of b ws usual y (suc n) m in
+    handed c _ _ (not-refused b k ws usual y (suc n) m e) (says n m (r .0) (r .1) c (r .2) refl refl refl) (leaves n m (r .0) (r .1) c (r .2) refl refl refl)

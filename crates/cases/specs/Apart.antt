@@ -4,9 +4,9 @@ use mathlib.Core.Path.{_≡_}
 use mathlib.Core.List.{List, [], _∷_, _++_, map}
 use lib.ListN.{replicate}
 use Rattle.search.specs.declared.Factors.{Factors}
-use Rattle.search.specs.Job.{Job}
+use Rattle.search.specs.Job.{Job, standard}
 use Rattle.search.specs.Rounds.{search}
-use Rattle.search.specs.Call.{Call, jobOf}
+use Rattle.search.specs.Call.{Call, pairs, jobOf}
 use Rattle.search.specs.Outcome.{answerOf, figures, logWord}
 use Rattle.search.specs.Guarantee.{withPick}
 use Rattle.cases.specs.Cases.{HandsOver, routed, unfinishedAfter, unset, never, old}
@@ -27,6 +27,7 @@ jobB =
       sheets = (0 ∷ 0 ∷ 3 ∷ 1 ∷ 0 ∷ 4 ∷ []) ++ (0 ∷ 0 ∷ 1 ∷ 0 ∷ 9 ∷ 1 ∷ []) ++ (0 ∷ 0 ∷ 9 ∷ 0 ∷ 9 ∷ 3 ∷ []);
       count = 3;
       schedule = 100 ∷ 250 ∷ 100 ∷ 100 ∷ [];
+      defaultSchedule = standard;
       budget = 100;
       memory = record { route = replicate 6 old; log = replicate 7 old; work = replicate 40 old; wide = replicate 12 old };
     }
@@ -49,6 +50,7 @@ jobC budget =
       sheets = [];
       count = 0;
       schedule = 300 ∷ 500 ∷ 150 ∷ 100 ∷ [];
+      defaultSchedule = standard;
       budget = budget;
       memory = record { route = replicate 6 old; log = replicate 7 old; work = replicate 32 old; wide = replicate 11 old };
     }
@@ -68,9 +70,9 @@ wideC p q r s t = p ++ q ++ r ++ s ++ t ++ (old ∷ [])
 abbrev pub alike : ℕ → Factors
 alike w = record { w1 = w; w2 = w }
 
--- the house schedule's six rounds
-abbrev pub houseRounds : List Factors
-houseRounds = map alike (500 ∷ 300 ∷ 200 ∷ 150 ∷ 120 ∷ 100 ∷ [])
+-- our six rounds
+abbrev pub sixRounds : List Factors
+sixRounds = map alike (500 ∷ 300 ∷ 200 ∷ 150 ∷ 120 ∷ 100 ∷ [])
 
 pub record Apart : Type 0 where
   -- turns 1 to 3: guides 1, 2 and 3, in this order
@@ -124,5 +126,5 @@ pub record Apart : Type 0 where
   -- under another rule for whose turn it is, what `AnyRule` speaks of, job B has other turns
   pub guide-3 : map logWord (search jobB3 100 .history) ≡ 196608 ∷ 196609 ∷ 196611 ∷ 196613 ∷ 196611 ∷ 2 ∷ []
   pub guide-3-says : figures (answerOf jobB3 (search jobB3 100 .final)) ≡ routed 4 5 2 6 10000
-  -- an empty schedule means the house schedule
-  pub house-schedule : (c : Call) → c .schedule ≡ [] → jobOf c .schedule ≡ houseRounds
+  -- the house schedule until a site's own is accepted
+  pub six-rounds : pairs standard ≡ sixRounds

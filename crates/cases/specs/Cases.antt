@@ -7,8 +7,8 @@ use Rattle.graph.specs.declared.PlanRead.the-variants.{Refused}
 use Rattle.graph.specs.Plan.{decode}
 use Rattle.graph.specs.Plan
 use Rattle.graph.specs.Lists.{over, readAnswer}
-use Rattle.search.specs.Job.{Job, factors, routeEnd, atFirst}
-use Rattle.search.specs.Call.{Memory, Call, planEdges, jobOf}
+use Rattle.search.specs.Job.{Job, factors, standard, routeEnd, atFirst}
+use Rattle.search.specs.Call.{Memory, Call, inForce, planEdges, jobOf}
 use Rattle.search.specs.Admitted.{Schedule, Admitted}
 use Rattle.search.specs.Outcome.{Figures, route, noRoute, unfinished, refused, figures, workWords, wideWords, answer, memoryAfter}
 use Rattle.job.specs.JobA.{planA, PrintsA}
@@ -59,6 +59,10 @@ never = 18446744073709551615
 abbrev pub lent : Memory
 lent = record { route = replicate 5 old; log = replicate 5 old; work = replicate 26 old; wide = replicate 9 old }
 
+-- job A's two rounds
+abbrev pub scheduleA : List ℕ
+scheduleA = 200 ∷ 200 ∷ 100 ∷ 100 ∷ []
+
 -- job A with this memory, plan, barred number, anchor table and allowance
 abbrev pub callIn : Memory → List ℕ → ℕ → List ℕ → ℕ → Call
 callIn memory plan barred anchor budget =
@@ -70,7 +74,8 @@ callIn memory plan barred anchor budget =
       anchor = anchor;
       sheets = 0 ∷ 9 ∷ 0 ∷ 0 ∷ [];
       count = 1;
-      schedule = 200 ∷ 200 ∷ 100 ∷ 100 ∷ [];
+      schedule = scheduleA;
+      defaultSchedule = standard;
       budget = budget;
       memory = memory;
     }
@@ -94,6 +99,7 @@ withTables anchor count sheets schedule c =
       sheets = sheets;
       count = count;
       schedule = schedule;
+      defaultSchedule = c .defaultSchedule;
       budget = c .budget;
       memory = c .memory;
     }
@@ -118,9 +124,19 @@ wideA p q r s = p ++ q ++ r ++ s ++ (old ∷ [])
 
 -- ---- `02 00`, from 0 to 1
 
+-- lent memory after all of job A
+abbrev pub afterA : Memory
+afterA =
+    record {
+      route = 0 ∷ 1 ∷ 2 ∷ 3 ∷ old ∷ [];
+      log = 65536 ∷ 65538 ∷ 1 ∷ 65538 ∷ old ∷ [];
+      work = workA (unset ∷ 0 ∷ []) (0 ∷ 2 ∷ []) (1 ∷ 1 ∷ []) (2 ∷ 4 ∷ []);
+      wide = wideA (0 ∷ 0 ∷ []) (1 ∷ 1 ∷ []) (3 ∷ 3 ∷ []) (6 ∷ never ∷ []);
+    }
+
 -- zero anchor table, no guides
-abbrev pub twoVertices : ℕ → List ℕ → ℕ → Memory → Call
-twoVertices barred schedule budget memory =
+abbrev pub twoVertices : ℕ → List ℕ → List ℕ → ℕ → Memory → Call
+twoVertices barred schedule usual budget memory =
     record {
       bytes = 0x02 ∷ 0x00 ∷ [];
       start = 0;
@@ -130,6 +146,7 @@ twoVertices barred schedule budget memory =
       sheets = [];
       count = 0;
       schedule = schedule;
+      defaultSchedule = usual;
       budget = budget;
       memory = memory;
     }
@@ -174,14 +191,7 @@ startAlone c =
 
 pub record Cases : Type 0 where
   -- (p) Job A
-  pub job-A :
-      HandsOver (jobA 100) (routed 6 4 2 4 10000)
-      (record {
-        route = 0 ∷ 1 ∷ 2 ∷ 3 ∷ old ∷ [];
-        log = 65536 ∷ 65538 ∷ 1 ∷ 65538 ∷ old ∷ [];
-        work = workA (unset ∷ 0 ∷ []) (0 ∷ 2 ∷ []) (1 ∷ 1 ∷ []) (2 ∷ 4 ∷ []);
-        wide = wideA (0 ∷ 0 ∷ []) (1 ∷ 1 ∷ []) (3 ∷ 3 ∷ []) (6 ∷ never ∷ []);
-      })
+  pub job-A : HandsOver (jobA 100) (routed 6 4 2 4 10000) afterA
   -- (p) allowance 2: route 0 2 3, cost 7, one round, bound 40000
   pub job-A-at-2 :
       HandsOver (jobA 2) (routed 7 3 1 2 40000)
@@ -202,10 +212,10 @@ pub record Cases : Type 0 where
       })
   -- the same three from job bytes, as the bench program prints them
   pub job-A-prints : PrintsA
-  -- (p) `02 00`, 0 to 1, zero anchor table, no guides, allowance 1 or more: no route, 1 turn; whatever classes are barred
+  -- (p) `02 00`, 0 to 1, zero anchor table, no guides, allowance 1 or more: no route, 1 turn; whatever classes are barred, whichever schedule is in force
   pub two-vertices :
-      (barred : ℕ) → barred ≤ 255 → (ws : List ℕ) → Schedule ws → (budget : ℕ) → 1 ≤ budget → (m : Memory) → Enough 2 0 m →
-      HandsOver (twoVertices barred ws budget m) (noRouteAfter 1) (twoVerticesAfter m)
+      (barred : ℕ) → barred ≤ 255 → (ws usual : List ℕ) → Schedule (inForce usual ws) → (budget : ℕ) → 1 ≤ budget →
+      (m : Memory) → Enough 2 0 m → HandsOver (twoVertices barred ws usual budget m) (noRouteAfter 1) (twoVerticesAfter m)
   -- (p) Start = goal, allowance 0, valid tables: cost 0, every round finished. So of every call that is not refused
   pub start-is-goal : (c : Call) → Admitted c → c .start ≡ c .goal → HandsOver c (allRounds c) (startAlone c)
   -- (p) no bytes: 1 at 0

@@ -6,6 +6,7 @@ use lib.ListN.{replicate}
 use Rattle.graph.specs.declared.PlanWritten.the-variants.{Count}
 use Rattle.graph.specs.Plan.{accepted, decode}
 use Rattle.graph.specs.Lists.{none, fault, outAfter}
+use Rattle.search.specs.Job.{standard}
 use Rattle.search.specs.Call.{Call, faultOf}
 use Rattle.job.specs.JobA.{planA}
 use Rattle.cases.specs.Cases.{HandsOver, routed, PlanRefused, old, unset, never, callIn, withTables, anchorA}
@@ -45,6 +46,7 @@ dear =
       sheets = [];
       count = 0;
       schedule = 100 ∷ 100 ∷ [];
+      defaultSchedule = standard;
       budget = 2;
       memory = record { route = replicate 3 old; log = replicate 2 old; work = replicate 16 old; wide = replicate 7 old };
     }

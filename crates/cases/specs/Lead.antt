@@ -3,7 +3,7 @@ use Prim.Native.Nat.{ℕ}
 use mathlib.Core.Path.{_≡_}
 use mathlib.Core.List.{List, [], _∷_, _++_, map}
 use lib.ListN.{replicate}
-use Rattle.search.specs.Job.{Job, factors}
+use Rattle.search.specs.Job.{Job, factors, standard}
 use Rattle.search.specs.Rounds.{Moment}
 use Rattle.search.specs.Call.{Call, jobOf}
 use Rattle.search.specs.Outcome.{outcome}
@@ -38,6 +38,7 @@ alley cost number budget =
       sheets = number ∷ 13 ∷ 13 ∷ 0 ∷ 0 ∷ [];
       count = 1;
       schedule = 200 ∷ 300 ∷ 100 ∷ 100 ∷ [];
+      defaultSchedule = standard;
       budget = budget;
       memory = record { route = replicate 5 old; log = replicate 4 old; work = replicate 28 old; wide = replicate 10 old };
     }

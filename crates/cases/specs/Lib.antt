@@ -6,3 +6,4 @@ pub mod Barred
 pub mod Costs
 pub mod Opinion
 pub mod Lead
+pub mod Defaults

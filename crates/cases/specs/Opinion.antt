@@ -3,6 +3,7 @@ use Prim.Native.Nat.{ℕ}
 use mathlib.Core.Path.{_≡_}
 use mathlib.Core.List.{List, [], _∷_, _++_, map}
 use lib.ListN.{replicate}
+use Rattle.search.specs.Job.{standard}
 use Rattle.search.specs.Call.{Memory, Call}
 use Rattle.search.specs.Outcome.{logWord, outcome}
 use Rattle.job.specs.JobA.{planA}
@@ -49,6 +50,7 @@ dearFork sheet =
       sheets = sheet;
       count = 1;
       schedule = 100 ∷ 10000 ∷ [];
+      defaultSchedule = standard;
       budget = 100;
       memory = record { route = replicate 5 old; log = replicate 4 old; work = replicate 32 old; wide = replicate 11 old };
     }
@@ -69,6 +71,7 @@ awayA count sheets =
       sheets = sheets;
       count = count;
       schedule = [];
+      defaultSchedule = standard;
       budget = 100;
       memory = jobA 100 .memory;
     }

@@ -1,8 +1,12 @@
-// Planner calls and the bench text for programs in C and Rust: answers as eight figures, over numbers and lent memory.
+// Planner calls, the default schedule and the bench text for programs in C and Rust: answers as eight figures, over
+// numbers and lent memory. The default schedule is called the house schedule there, as users call it.
 ghost use mathlib.Core.Path.{_≡_};
 ghost use Rattle.planner.specs.Plan.{memoryOf, callOf};
 ghost use Rattle.job.specs.Texts.{Prints};
+ghost use Rattle.schedule.specs.Loading.{atFirst, loading};
 ghost use Rattle.ffi_planner.specs.Calls.{answerFigures, Exported};
+ghost use Rattle.ffi_planner.specs.House.{houseOf, LoadedTo};
+use schedule::default_schedule::DefaultSchedule;
 use search::Answer;
 
 // The figures of a planner call's answer.
@@ -26,9 +30,44 @@ fn of_answer(answer: Answer) -> [u64; 8]
     }
 }
 
+// The house schedule until a sheet is accepted.
+#[no_mangle]
+pub extern "C" fn secondcoop_standard_house(numbers: &mut [u32; 32], count: &mut u32)
+    ensures { λ _. ⌜ houseOf (now (numbers .exit)) (now (count .exit)) ≡ atFirst ⌝ }
+{
+    let standard = DefaultSchedule::standard();
+    let six = standard.numbers;
+    *numbers = six;
+    *count = standard.count;
+}
+
+// A sheet loaded as the house schedule: 0, or 10 where it is rejected.
+#[no_mangle]
+pub extern "C" fn secondcoop_load_house(
+    sheet: &[u32],
+    numbers: &mut [u32; 32],
+    count: &mut u32,
+) -> u32
+    ensures { λ r. ⌜ LoadedTo (loading (houseOf (now (numbers .entry)) (now (count .entry))) (now (sheet .entry))) r (houseOf (now (numbers .exit)) (now (count .exit))) ⌝ }
+{
+    let previous = *numbers;
+    let house = DefaultSchedule {
+        numbers: previous,
+        count: *count,
+    };
+    let loaded = house.load(sheet);
+    let in_force = loaded.schedule.numbers;
+    *numbers = in_force;
+    *count = loaded.schedule.count;
+    if loaded.accepted {
+        return 0;
+    }
+    10
+}
+
 // A planner call.
 #[no_mangle]
-pub extern "C" fn secondcoop_plan(
+pub extern "C" fn secondcoop_plan<'a>(
     bytes: &[u8],
     start: u32,
     goal: u32,
@@ -36,7 +75,8 @@ pub extern "C" fn secondcoop_plan(
     anchor: &[u32],
     guides: &[u32],
     guide_count: u32,
-    schedule: &[u32],
+    schedule: &'a [u32],
+    house: &'a [u32],
     budget: u32,
     route: &mut [u32],
     log: &mut [u32],
@@ -44,7 +84,7 @@ pub extern "C" fn secondcoop_plan(
     wide: &mut [u64],
     figures: &mut [u64; 8],
 )
-    ensures { λ r. ⌜ Exported (callOf (now (bytes .entry)) start goal barred (now (anchor .entry)) (now (guides .entry)) «guide_count» (now (schedule .entry)) budget (memoryOf (now (route .entry)) (now (log .entry)) (now (work .entry)) (now (wide .entry)))) (now (figures .exit)) (memoryOf (now (route .exit)) (now (log .exit)) (now (work .exit)) (now (wide .exit))) ⌝ }
+    ensures { λ r. ⌜ Exported (callOf (now (bytes .entry)) start goal barred (now (anchor .entry)) (now (guides .entry)) «guide_count» (now (schedule .entry)) (now (house .entry)) budget (memoryOf (now (route .entry)) (now (log .entry)) (now (work .entry)) (now (wide .entry)))) (now (figures .exit)) (memoryOf (now (route .exit)) (now (log .exit)) (now (work .exit)) (now (wide .exit))) ⌝ }
 {
     let answer = planner::plan(
         bytes,
@@ -55,6 +95,7 @@ pub extern "C" fn secondcoop_plan(
         guides,
         guide_count,
         schedule,
+        house,
         budget,
         route,
         log,

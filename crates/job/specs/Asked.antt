@@ -2,6 +2,7 @@
 use Prim.Native.Nat.{ℕ, _+_, _*_}
 use mathlib.Core.List.{List}
 use lib.ListN.{take, drop, replicate}
+use Rattle.search.specs.Job.{standard}
 use Rattle.search.specs.Call.{Memory, Call}
 use Rattle.job.specs.declared.Front.{Front}
 use Rattle.job.specs.Numbers.{values}
@@ -45,7 +46,7 @@ zeros = record { route = replicate routeSize 0; log = replicate logSize 0; work 
 
 -- ---- the call
 
--- with this plan, these tables and this schedule
+-- with this plan, these tables and this schedule; a bench job has our six rounds for its default schedule
 unfoldable pub callWith : List ℕ → Front → List ℕ → List ℕ → List ℕ → Call
 callWith plan f anchor sheets schedule =
     record {
@@ -57,6 +58,7 @@ callWith plan f anchor sheets schedule =
       sheets = sheets;
       count = f .«guide_count»;
       schedule = schedule;
+      defaultSchedule = standard;
       budget = f .ends .budget;
       memory = zeros;
     }

@@ -12,7 +12,7 @@ use Rattle.search.specs.Call.{Memory, Call, scheduleOf, pairs, planEdges, jobOf
 use Rattle.search.specs.Bounds.{Priced}
 use Rattle.search.specs.Admitted.{Admissible}
 use Rattle.search.proofs.Facts.{Valid, InRange}
-use Rattle.search.proofs.Admitted.{clear, admitted, plan-edges}
+use Rattle.search.proofs.Admitted.{clear, admitted, plan-edges, job-schedule}
 use Rattle.search.proofs.Legal.{between, priced}
 use Rattle.workspace.specs.declared.Size.{Size}
 use Rattle.workspace.specs.Layout.{base, Room, verticesOf}
@@ -21,7 +21,7 @@ use Rattle.admission.specs.declared.Query.{Query}
 use Rattle.planner.specs.Carried.{Asking, wordsOf, Carries}
 use Rattle.search.specs.declared.Progress.{Progress}
 use Rattle.search.proofs.Words.{route-kept}
-use Rattle.planner.proofs.Jobs.{Accepted, accepts, job-size, job-schedule}
+use Rattle.planner.proofs.Jobs.{Accepted, accepts, job-size}
 
 module _ (c : Call) (z : Size) (q : Query) (a : Asking c z q) where
   plan : Accepted c

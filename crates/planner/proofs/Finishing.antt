@@ -21,7 +21,7 @@ use Rattle.search.specs.Rounds.{Stand}
 use Rattle.search.specs.Call.{Memory, Call, scheduleOf, pairs, jobOf}
 use Rattle.search.specs.Outcome.{bound, summary, cutShort, answerAt, answerOf}
 use Rattle.search.proofs.Facts.{Valid, InRange}
-use Rattle.search.proofs.Admitted.{admitted}
+use Rattle.search.proofs.Admitted.{admitted, job-schedule}
 use Rattle.search.proofs.Incumbent as kept
 use Rattle.search.proofs.Standing.{Says}
 use Rattle.workspace.specs.declared.Size.{Size}
@@ -32,7 +32,7 @@ use Rattle.planner.specs.declared.Standing.{Standing}
 use Rattle.planner.specs.Carried.{Asking, Carries}
 use Rattle.planner.specs.Finished.{factorsIn, summaryIn, cutIn, Figured, AtEnd}
 use Rattle.planner.proofs.Carrying.{queryOf}
-use Rattle.planner.proofs.Jobs.{job-factors, job-schedule}
+use Rattle.planner.proofs.Jobs.{job-factors}
 use Rattle.planner.proofs.Asked.{in-range, route-long, small}
 
 -- ---- the figures, as the code makes them

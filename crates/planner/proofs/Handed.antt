@@ -1,15 +1,14 @@
 -- A call that is not refused, from lent memory to what is handed over.
-use Prim.Native.Nat.{ℕ, _<_}
-use native.Mathlib.Omega.{arith}
+use Prim.Native.Nat.{ℕ}
 use mathlib.Core.Path.{_≡_, refl, sym, ap, _∙_, subst}
-use mathlib.Core.List.{List, [], _∷_}
+use mathlib.Core.List.{List, []}
 use lib.ListN.{length}
 use lib.Seq.{take-nil}
 use Rattle.graph.specs.Lists.{none, fault, over}
 use Rattle.search.specs.declared.Progress.{Progress}
 use Rattle.search.specs.declared.Answer.{Answer}
 use Rattle.search.specs.declared.Answer.the-variants as answers
-use Rattle.search.specs.Job.{Job, house}
+use Rattle.search.specs.Job.{Job}
 use Rattle.search.specs.Rounds.{begin, run, moments, search}
 use Rattle.search.specs.Call.{Memory, Call, inForce, scheduleOf, faultOf, planEdges, jobOf}
 use Rattle.search.specs.Outcome.{answerOf, logAfter, workWords, outcome, answerIn, answer, memoryIn, memoryAfter}
@@ -88,22 +87,17 @@ module _ (c : Call) (z : Size) (q : Query) (at : ℕ) (bytes anchor guides sched
 
 -- ---- refused, or not
 
-pub picked-some : (given schedule usual : List ℕ) → schedule ≡ inForce usual given → usual ≡ house → 0 < length schedule
-unfolding inForce house
-picked-some [] schedule usual e u = omega (arith, ap length (e ∙ u))
-picked-some (w ∷ ws) schedule usual e u = omega (arith, ap length e)
-
 -- a call with these arguments, the schedule in force, and what is decided of it
-module _ (bytes : List ℕ) (start goal barred : ℕ) (anchor sheets : List ℕ) (count : ℕ) (given : List ℕ) (budget : ℕ) (m : Memory)
-    (schedule usual : List ℕ) (e : schedule ≡ inForce usual given) (u : usual ≡ house) (d : Verdict)
-    (k : Decided bytes (queryOf (callOf bytes start goal barred anchor sheets count given budget m)) anchor sheets schedule
+module _ (bytes : List ℕ) (start goal barred : ℕ) (anchor sheets : List ℕ) (count : ℕ) (given usual : List ℕ) (budget : ℕ) (m : Memory)
+    (schedule : List ℕ) (e : schedule ≡ inForce usual given) (d : Verdict)
+    (k : Decided bytes (queryOf (callOf bytes start goal barred anchor sheets count given usual budget m)) anchor sheets schedule
     (record { route = length (m .route); work = length (m .work); wide = length (m .wide) }) d) where
   abbrev c : Call
-  c = callOf bytes start goal barred anchor sheets count given budget m
+  c = callOf bytes start goal barred anchor sheets count given usual budget m
 
   picked : schedule ≡ scheduleOf c
   unfolding scheduleOf
-  picked = e ∙ ap (λ (x : List ℕ). inForce x given) u
+  picked = e
 
   decided : d ≡ verdictOf c
   decided =

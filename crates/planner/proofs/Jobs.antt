@@ -13,6 +13,7 @@ use Rattle.search.specs.declared.Factors.{Factors}
 use Rattle.search.specs.Job.{cyclic, guides, heuristic, factors}
 use Rattle.search.specs.Rounds.{firstTurn, nextTurn}
 use Rattle.search.proofs.Tools.{cond-ind}
+use Rattle.search.proofs.Admitted.{job-schedule}
 use Rattle.search.specs.Call.{Call, scheduleOf, pairs, tables, faultIn, faultOf, jobIn, jobFrom, jobOf}
 
 -- whose turn it is, of n guides
@@ -43,15 +44,6 @@ module _ (c : Call) where
   pub job-goal : jobOf c .goal ≡ c .goal
   unfolding jobOf
   job-goal = by-goal (decode (c .bytes))
-
-  by-schedule : (d : Decoded) → jobFrom c d .schedule ≡ pairs (scheduleOf c)
-  unfolding jobFrom jobIn
-  by-schedule (accepted v es) = refl
-  by-schedule (refused n p) = refl
-
-  pub job-schedule : jobOf c .schedule ≡ pairs (scheduleOf c)
-  unfolding jobOf
-  job-schedule = by-schedule (decode (c .bytes))
 
   by-pick : (d : Decoded) → jobFrom c d .pick ≡ cyclic
   unfolding jobFrom jobIn
@@ -88,7 +80,7 @@ module _ (c : Call) where
 
   pub job-factors : (r : ℕ) → factors (jobOf c) r ≡ getD (pairs (scheduleOf c)) r (record { w1 = 0; w2 = 0 })
   unfolding factors
-  job-factors r = ap (λ (l : List Factors). getD l r (record { w1 = 0; w2 = 0 })) job-schedule
+  job-factors r = ap (λ (l : List Factors). getD l r (record { w1 = 0; w2 = 0 })) (job-schedule c)
 
 -- ---- of a call that is not refused
 

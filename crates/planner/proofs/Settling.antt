@@ -13,6 +13,7 @@ use Rattle.search.specs.Turn.{least, stepOne}
 use Rattle.search.specs.Rounds.{Stand, ended, inHand, step, endRound, onFinished, settle}
 use Rattle.search.specs.Call.{Memory, Call, scheduleOf, pairs, planEdges, jobOf}
 use Rattle.search.specs.Bounds.{maxFactor, Priced, DueWithin}
+use Rattle.search.proofs.Admitted.{job-schedule}
 use Rattle.search.proofs.Facts.{InRange}
 use Rattle.workspace.specs.declared.Size.{Size}
 use Rattle.workspace.specs.Layout.{Room, verticesOf}
@@ -20,7 +21,7 @@ use Rattle.workspace.proofs.Holding.{holds-vertices, holds-ready}
 use Rattle.admission.specs.declared.Query.{Query}
 use Rattle.planner.specs.declared.Standing.{Standing}
 use Rattle.planner.specs.Carried.{Asking, wordsOf, Carries, Stands, RoundOver, RoundEnds, Settling, Settles}
-use Rattle.planner.proofs.Jobs.{job-anchor, job-factors, job-goal, job-schedule}
+use Rattle.planner.proofs.Jobs.{job-anchor, job-factors, job-goal}
 use Rattle.planner.proofs.Asked.{anchor-long, goal-in, in-range, priced-in}
 
 finished≢due : {m a : ℕ} → Finished ≡ Due m a → ⊥

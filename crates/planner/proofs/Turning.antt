@@ -19,7 +19,7 @@ use Rattle.search.specs.Outcome.{routeAfter, logWord, logAfter}
 use Rattle.search.specs.Bounds.{maxKey}
 use Rattle.search.proofs.Facts.{InRange, Valid}
 use Rattle.search.proofs.Moves.{length-expand}
-use Rattle.search.proofs.Admitted.{admitted, job-edges}
+use Rattle.search.proofs.Admitted.{admitted, job-edges, job-schedule}
 use Rattle.search.proofs.Standing.{says-due, turn-ok, advance-good}
 use Rattle.search.proofs.Runs.{advance-due, advance-over, moments-due, moments-over, run-suc, counts}
 use Rattle.workspace.specs.declared.Size.{Size}
@@ -32,7 +32,7 @@ use Rattle.planner.specs.declared.Standing.{Standing}
 use Rattle.planner.specs.Plan.{memoryOf}
 use Rattle.planner.specs.Carried.{Asking, wordsOf, Carries, Stands, Settling, Settles}
 use Rattle.planner.specs.Reached.{Given, Reaches, Advancing, Advances}
-use Rattle.planner.proofs.Jobs.{next-few, job-heuristics, job-factors, job-guides, job-schedule, job-pick}
+use Rattle.planner.proofs.Jobs.{next-few, job-heuristics, job-factors, job-guides, job-pick}
 use Rattle.planner.proofs.Asked.{small, few, sheets-long, in-range, rounds-are, priced-in}
 use Rattle.planner.proofs.Carrying.{stands-log}
 use Rattle.planner.proofs.Logging.{log-more}

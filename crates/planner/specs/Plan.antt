@@ -12,8 +12,8 @@ abbrev pub memoryOf : List ℕ → List ℕ → List ℕ → List ℕ → Memory
 memoryOf route log work wide = record { route = route; log = log; work = work; wide = wide }
 
 -- the call with these arguments, where memory is lent as it is
-abbrev pub callOf : List ℕ → ℕ → ℕ → ℕ → List ℕ → List ℕ → ℕ → List ℕ → ℕ → Memory → Call
-callOf bytes start goal barred anchor guides count schedule budget m =
+abbrev pub callOf : List ℕ → ℕ → ℕ → ℕ → List ℕ → List ℕ → ℕ → List ℕ → List ℕ → ℕ → Memory → Call
+callOf bytes start goal barred anchor guides count schedule usual budget m =
     record {
       bytes = bytes;
       start = start;
@@ -23,6 +23,7 @@ callOf bytes start goal barred anchor guides count schedule budget m =
       sheets = guides;
       count = count;
       schedule = schedule;
+      defaultSchedule = usual;
       budget = budget;
       memory = m;
     }

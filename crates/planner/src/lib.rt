@@ -23,8 +23,9 @@ pub struct Standing {
 
 // Plans a route: plan bytes, start and goal, the barred classes (bit k for class k), the anchor heuristic (anchor
 // table), the inadmissible ones (guide sheets) one after another with their count, the schedule W1, W2, W1, W2, ..
-// (empty: the house schedule), the budget (allowance) of turns; route, log, work and wide work memory are lent.
-pub fn plan(
+// (empty: the default schedule, which follows it), the budget (allowance) of turns; route, log, work and wide work
+// memory are lent.
+pub fn plan<'a>(
     bytes: &[u8],
     start: u32,
     goal: u32,
@@ -32,17 +33,17 @@ pub fn plan(
     anchor: &[u32],
     guides: &[u32],
     guide_count: u32,
-    schedule: &[u32],
+    schedule: &'a [u32],
+    default_schedule: &'a [u32],
     budget: u32,
     route: &mut [u32],
     log: &mut [u32],
     work: &mut [u32],
     wide: &mut [u64],
 ) -> Answer
-    ensures { λ r. ⌜ Planned (callOf (now (bytes .entry)) start goal barred (now (anchor .entry)) (now (guides .entry)) «guide_count» (now (schedule .entry)) budget (memoryOf (now (route .entry)) (now (log .entry)) (now (work .entry)) (now (wide .entry)))) r (memoryOf (now (route .exit)) (now (log .exit)) (now (work .exit)) (now (wide .exit))) ⌝ }
+    ensures { λ r. ⌜ Planned (callOf (now (bytes .entry)) start goal barred (now (anchor .entry)) (now (guides .entry)) «guide_count» (now (schedule .entry)) (now («default_schedule» .entry)) budget (memoryOf (now (route .entry)) (now (log .entry)) (now (work .entry)) (now (wide .entry)))) r (memoryOf (now (route .exit)) (now (log .exit)) (now (work .exit)) (now (wide .exit))) ⌝ }
 {
-    let house = schedule::house();
-    let in_force = schedule::in_force(schedule, &house);
+    let in_force = schedule::in_force(schedule, default_schedule);
     let q = Query {
         start,
         goal,

@@ -10,7 +10,7 @@ use lib.Seq.{drop-cons, getD-drop}
 use lib.Dec.{ltb, eqb}
 use borrow.Author.Tests.{lt-ltb, le-ltb, eq-eqb, ne-eqb}
 use Rattle.search.specs.declared.Factors.{Factors}
-use Rattle.search.specs.Call.{inForce, outOfRange, rising, pairs, row, scheduleRow}
+use Rattle.search.specs.Call.{inForce, outOfRange, rising, unfitSchedule, pairs}
 use Rattle.schedule.specs.Unfit.{unfit, unfitAt}
 
 -- ---- which schedule is in force
@@ -89,19 +89,23 @@ true-right false b h = h
 
 module _ (ws : List ℕ) where
   abbrev size : Bool
-  size = ltb 32 (length ws) || eqb (length ws % 2) 1
+  size = eqb (length ws) 0 || ltb 32 (length ws) || eqb (length ws % 2) 1
 
-  by-parts : (b : Bool) → size || (outOfRange ws || rising ws) ≡ b → row b 10 0 ≡ scheduleRow ws
-  unfolding scheduleRow
-  by-parts b h = ap (λ (x : Bool). row x 10 0) (sym (or-assoc size (outOfRange ws) (rising ws) ∙ h))
+  by-parts : (b : Bool) → size || (outOfRange ws || rising ws) ≡ b → b ≡ unfitSchedule ws
+  unfolding unfitSchedule
+  by-parts b h = sym (or-assoc size (outOfRange ws) (rising ws) ∙ h)
 
-  pub row-long : 32 < length ws → row true 10 0 ≡ scheduleRow ws
-  row-long h = by-parts true (simp (lt-ltb 32 (length ws) h))
+  by-size : size ≡ true → true ≡ unfitSchedule ws
+  by-size h = by-parts true (ap (λ (x : Bool). x || (outOfRange ws || rising ws)) h)
 
-  pub row-odd : length ws % 2 ≡ 1 → row true 10 0 ≡ scheduleRow ws
-  row-odd h =
-      by-parts true
-      (ap (λ (x : Bool). x || (outOfRange ws || rising ws)) (true-right (ltb 32 (length ws)) (eqb (length ws % 2) 1) (eq-eqb (length ws % 2) 1 h)))
+  pub row-empty : length ws ≡ 0 → true ≡ unfitSchedule ws
+  row-empty h = by-size (simp (eq-eqb (length ws) 0 h))
+
+  pub row-long : 32 < length ws → true ≡ unfitSchedule ws
+  row-long h = by-size (rw (lt-ltb 32 (length ws) h, true-right (eqb (length ws) 0) true refl))
+
+  pub row-odd : length ws % 2 ≡ 1 → true ≡ unfitSchedule ws
+  row-odd h = by-size (true-right (eqb (length ws) 0 || ltb 32 (length ws)) (eqb (length ws % 2) 1) (eq-eqb (length ws % 2) 1 h))
 
   -- the number that is next
   module _ (i : ℕ) (h : i < length ws) (f : Fit ws i) where
@@ -121,17 +125,18 @@ module _ (ws : List ℕ) where
           rest = next-rest ∙ ap (λ (b : Bool). b || (outOfRange (drop (suc i) ws) || rising (drop (suc i) ws))) q;
         }
 
-    pub row-unfit : unfitAt ws i ≡ true → row true 10 0 ≡ scheduleRow ws
+    pub row-unfit : unfitAt ws i ≡ true → true ≡ unfitSchedule ws
     row-unfit q =
         by-parts true
         (true-right size (outOfRange ws || rising ws)
         (next-rest ∙ ap (λ (b : Bool). b || (outOfRange (drop (suc i) ws) || rising (drop (suc i) ws))) q))
 
-  pub row-fit : (i : ℕ) → length ws ≤ 32 → (length ws % 2 ≡ 1 → ⊥) → length ws ≤ i → Fit ws i → row false 10 0 ≡ scheduleRow ws
+  pub row-fit :
+      (i : ℕ) → (length ws ≡ 0 → ⊥) → length ws ≤ 32 → (length ws % 2 ≡ 1 → ⊥) → length ws ≤ i → Fit ws i → false ≡ unfitSchedule ws
   unfolding outOfRange rising
-  row-fit i few even all f =
+  row-fit i some few even all f =
       let l : outOfRange ws || rising ws ≡ false = f .rest ∙ ap (λ (l : List ℕ). outOfRange l || rising l) (drop-of-length-le ws all) in
-      by-parts false (rw (le-ltb 32 (length ws) few, ne-eqb (length ws % 2) 1 even, l))
+      by-parts false (rw (ne-eqb (length ws) 0 some, le-ltb 32 (length ws) few, ne-eqb (length ws % 2) 1 even, l))
 
 -- ---- the rounds
 

@@ -1,1 +1,2 @@
 pub mod InForce
+pub mod Loading

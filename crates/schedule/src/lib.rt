@@ -1,9 +1,10 @@
-// The schedule in force: which one it is, row 10, and the factors of each round.
+// The schedule in force: which one it is, row 10, and the factors of each round; and the default schedule.
+pub mod default_schedule;
+
 ghost use Prim.Native.Nat.{_≤_, _<_};
 ghost use mathlib.Core.Path.{_≡_};
 ghost use lib.ListN.{length, getD};
-ghost use Rattle.search.specs.Job.{house};
-ghost use Rattle.search.specs.Call.{inForce, pairs, row, scheduleRow};
+ghost use Rattle.search.specs.Call.{inForce, pairs, unfitSchedule};
 ghost use Rattle.schedule.specs.Unfit.{unfitAt};
 use search::Factors;
 
@@ -14,19 +15,12 @@ const LEAST_FACTOR: u32 = 100;
 
 const MOST_FACTOR: u32 = 10000;
 
-// The house schedule: W1, W2, W1, W2, ..
-pub fn house() -> [u32; 12]
-    ensures { λ r. ⌜ r ≡ house ⌝ }
-{
-    [500, 500, 300, 300, 200, 200, 150, 150, 120, 120, 100, 100]
-}
-
-// The schedule in force: where none is given, the house schedule.
-pub fn in_force<'a>(given: &'a [u32], house: &'a [u32]) -> &'a [u32]
-    ensures { λ r. ⌜ now r ≡ inForce (now (house .entry)) (now (given .entry)) ⌝ }
+// The schedule in force: where none is given, the default schedule (house schedule).
+pub fn in_force<'a>(given: &'a [u32], default_schedule: &'a [u32]) -> &'a [u32]
+    ensures { λ r. ⌜ now r ≡ inForce (now («default_schedule» .entry)) (now (given .entry)) ⌝ }
 {
     if given.len() == 0 {
-        return house;
+        return default_schedule;
     }
     given
 }
@@ -50,11 +44,14 @@ fn unfit(schedule: &[u32], i: usize) -> bool
     factor < schedule[i + 2]
 }
 
-// Row 10: a schedule in force is over 16 rounds, odd, out of range or rising.
+// Row 10: no schedule: empty, over 16 rounds, odd, out of range or rising.
 pub fn schedule_fails(schedule: &[u32]) -> bool
-    ensures { λ r. ⌜ row r 10 0 ≡ scheduleRow (now (schedule .entry)) ⌝ }
+    ensures { λ r. ⌜ r ≡ unfitSchedule (now (schedule .entry)) ⌝ }
 {
     let numbers = schedule.len();
+    if numbers == 0 {
+        return true;
+    }
     if MAX_COUNT < numbers {
         return true;
     }

@@ -1,20 +1,14 @@
 -- `plan` meets its contract: refused as it must be, or answered as defined, with the guarantee.
-use Rattle.planner.proofs.Handed.{picked-some, planned-refused, lent-here, planned}
+use Rattle.planner.proofs.Handed.{planned-refused, lent-here, planned}
 use borrow.Author.Needs.{needs}
 use Rattle.planner.proofs.plan.Statement.{statement}
 use Rattle.planner.proofs.plan.Tie as tie
-
-house-requires : tie.Need-house-requires
-house-requires c κs = search needs
-
-slice-aggregate-in-force : tie.Need-slice-aggregate-in-force
-slice-aggregate-in-force c = search needs
 
 in-force-requires : tie.Need-in-force-requires
 in-force-requires c κs = search needs
 
 decide-requires : tie.Need-decide-requires
-decide-requires c κs = picked-some _ _ _ (c .in-force .ensures) (c .before .before .house .ensures)
+decide-requires c κs = search needs
 
 enum-known-n : tie.Need-enum-known-n
 enum-known-n c = search needs
@@ -25,12 +19,12 @@ enum-known-vertices c = search needs
 answer-requires : tie.Need-answer-requires
 answer-requires c κs =
     let k = c .before .before .before .before .before .before .before in
-    lent-here _ _ _ _ _ _ _ _ _ _ _ _ (k .before .in-force .ensures) (k .before .before .before .house .ensures) _ (k .decide .ensures) _ _ _ (c .before .before .before .before .before .vertices .given .1)
+    lent-here _ _ _ _ _ _ _ _ _ _ _ _ (k .before .in-force .ensures) _ (k .decide .ensures) _ _ _ (c .before .before .before .before .before .vertices .given .1)
 
 returns : tie.Need-returns
 returns c =
     let k = c .before .before .before in
-    planned-refused _ _ _ _ _ _ _ _ _ _ _ _ (k .before .in-force .ensures) (k .before .before .before .house .ensures) _ (k .decide .ensures) _ _ (c .before .n .given .1)
+    planned-refused _ _ _ _ _ _ _ _ _ _ _ _ (k .before .in-force .ensures) _ (k .decide .ensures) _ _ (c .before .n .given .1)
 
 same-length : tie.Need-same-length
 same-length c = search needs
@@ -48,14 +42,12 @@ returns-2 : tie.Need-returns-2
 returns-2 c =
     let f = c .before .before .before .before .before .before .before .before in
     let k = f .before .before .before .before .before .before .before .before in
-    planned _ _ _ _ _ _ _ _ _ _ _ _ (k .before .in-force .ensures) (k .before .before .before .house .ensures) _ (k .decide .ensures) _ _ _ (f .before .before .before .before .before .before .vertices .given .1) _ _ (f .answer .ensures)
+    planned _ _ _ _ _ _ _ _ _ _ _ _ (k .before .in-force .ensures) _ (k .decide .ensures) _ _ _ (f .before .before .before .before .before .before .vertices .given .1) _ _ (f .answer .ensures)
 
 pub plan-spec : {M : Type 1} → statement M
 plan-spec =
     tie.close
     (tie.spec
-    house-requires
-    slice-aggregate-in-force
     in-force-requires
     decide-requires
     enum-known-n

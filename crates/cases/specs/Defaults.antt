@@ -1,0 +1,56 @@
+-- Cases of the default schedule (document 02, E3: the site's own house schedule). Proved in proofs/Cases.antt.
+use Prim.Native.Nat.{ℕ}
+use mathlib.Core.Path.{_≡_}
+use mathlib.Core.List.{List, [], _∷_}
+use lib.ListN.{replicate}
+use Rattle.graph.specs.Lists.{none, fault}
+use Rattle.search.specs.Job.{standard}
+use Rattle.search.specs.Call.{Call, faultOf}
+use Rattle.cases.specs.Cases.{HandsOver, routed, refusedAt, lent, scheduleA, withTables, jobA, afterA}
+use Rattle.cases.specs.Costs.{lentA}
+
+-- a call with this schedule of its own, and this default schedule
+abbrev pub withSchedules : List ℕ → List ℕ → Call → Call
+withSchedules own usual c =
+    record {
+      bytes = c .bytes;
+      start = c .start;
+      goal = c .goal;
+      barred = c .barred;
+      anchor = c .anchor;
+      sheets = c .sheets;
+      count = c .count;
+      schedule = own;
+      defaultSchedule = usual;
+      budget = c .budget;
+      memory = c .memory;
+    }
+
+-- job A without a schedule of its own, on this default schedule
+abbrev pub siteA : List ℕ → Call
+siteA usual = withSchedules [] usual (jobA 100)
+
+-- refused with 10, lent memory as it was
+abbrev pub Unfit : List ℕ → Type 0
+Unfit usual = HandsOver (siteA usual) (refusedAt 10 0) lent
+
+pub record Defaults : Type 0 where
+  -- an empty schedule means the default one: on job A's two rounds it is job A, and so on our six
+  pub usual : HandsOver (siteA scheduleA) (routed 6 4 2 4 10000) afterA
+  pub six : HandsOver (siteA standard) (routed 6 4 6 4 10000) afterA
+  -- beside a schedule of the call's own it is not looked at, whatever it is
+  pub own : (usual : List ℕ) → HandsOver (withSchedules scheduleA usual (jobA 100)) (routed 6 4 2 4 10000) afterA
+  -- 1 and 16 rounds pass
+  pub one-round : faultOf (siteA (10000 ∷ 100 ∷ [])) ≡ none
+  pub sixteen-rounds : faultOf (siteA (replicate 32 100)) ≡ none
+  -- 10: none, odd, 17 rounds, a factor below 100 or above 10,000, W1 or W2 rising
+  pub no-round : Unfit []
+  pub odd : Unfit (200 ∷ 200 ∷ 100 ∷ [])
+  pub seventeen-rounds : Unfit (replicate 34 100)
+  pub too-low : Unfit (200 ∷ 200 ∷ 100 ∷ 99 ∷ [])
+  pub too-high : Unfit (10001 ∷ 200 ∷ 100 ∷ 100 ∷ [])
+  pub first-rises : Unfit (200 ∷ 200 ∷ 201 ∷ 200 ∷ [])
+  pub second-rises : Unfit (200 ∷ 200 ∷ 200 ∷ 201 ∷ [])
+  -- after 9, an anchor table of no numbers, and before 11, one number of the wide memory too few
+  pub tables-before : faultOf (withSchedules [] [] (withTables [] 0 [] [] (jobA 100))) ≡ fault 9 0
+  pub before-short : faultOf (withSchedules [] [] (lentA 4 25 7)) ≡ fault 10 0

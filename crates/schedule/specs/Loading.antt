@@ -1,0 +1,46 @@
+-- The default schedule (the site's own house schedule, E3): what stands at first, a sheet loaded, and what loading promises.
+use Prim.Native.Nat.{ℕ}
+use mathlib.Core.Path.{_≡_}
+use mathlib.Core.Logic.{_↔_}
+use mathlib.Core.Bool.{true, false, cond}
+use mathlib.Core.List.{List, [], _∷_, List·Memᴰ}
+use lib.ListN.{length, take, replicate}
+use Rattle.graph.specs.Lists.{none, over}
+use Rattle.search.specs.Job.{standard}
+use Rattle.search.specs.Call.{unfitSchedule, scheduleRow}
+use Rattle.search.specs.Admitted.{Schedule}
+use Rattle.schedule.specs.declared.default_schedule.DefaultSchedule.{DefaultSchedule}
+use Rattle.schedule.specs.declared.default_schedule.Loaded.{Loaded}
+
+-- the pairs in force: W1, W2, W1, W2, ..
+unfoldable pub pairsIn : DefaultSchedule → List ℕ
+pairsIn d = take (d .count) (d .numbers)
+
+-- until a sheet is accepted: our six rounds, and zeros behind them
+unfoldable pub atFirst : DefaultSchedule
+atFirst = record { numbers = over standard (replicate 32 0); count = length standard }
+
+-- a sheet is loaded: where it is no schedule it is rejected, and what was in force stays; else it is in force
+unfoldable pub loading : DefaultSchedule → List ℕ → Loaded
+loading d sheet =
+    cond (unfitSchedule sheet) (record { accepted = false; schedule = d })
+    (record { accepted = true; schedule = record { numbers = over sheet (d .numbers); count = length sheet } })
+
+-- sheets are loaded one after another
+unfoldable pub after : DefaultSchedule → List (List ℕ) → DefaultSchedule
+after d [] = d
+after d (sheet ∷ sheets) = after (loading d sheet .schedule) sheets
+
+-- the sentences of E3 about loading; proved in proofs/Loading
+pub record Loads : Type 0 where
+  -- a sheet is tested by the rules for schedules, and an empty one is none
+  pub tested : (d : DefaultSchedule) (sheet : List ℕ) → loading d sheet .accepted ≡ true ↔ Schedule sheet
+  -- an accepted sheet is what is in force
+  pub taken : (d : DefaultSchedule) (sheet : List ℕ) → loading d sheet .accepted ≡ true → pairsIn (loading d sheet .schedule) ≡ sheet
+  -- a rejected one leaves the previous one in force
+  pub kept : (d : DefaultSchedule) (sheet : List ℕ) → loading d sheet .accepted ≡ false → loading d sheet .schedule ≡ d
+  -- at first our six, and they stand until a sheet is accepted
+  pub first : pairsIn atFirst ≡ standard
+  pub until : (sheets : List (List ℕ)) → ((sheet : List ℕ) → List·Memᴰ sheet sheets → Schedule sheet → ⊥) → after atFirst sheets ≡ atFirst
+  -- whatever sheets were loaded in whatever order, row 10 passes what is in force
+  pub fit : (sheets : List (List ℕ)) → scheduleRow (pairsIn (after atFirst sheets)) ≡ none
