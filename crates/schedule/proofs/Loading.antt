@@ -14,7 +14,7 @@ use Rattle.search.specs.Call.{outOfRange, rising, unfitSchedule, row, scheduleR
 use Rattle.search.specs.Admitted.{Schedule}
 use Rattle.search.proofs.Admitted.{schedules}
 use Rattle.schedule.specs.declared.default_schedule.DefaultSchedule.{DefaultSchedule}
-use Rattle.schedule.specs.Loading.{pairsIn, atFirst, loading, after, Loads}
+use Rattle.schedule.specs.Loading.{pairsIn, atFirst, loading, after, Rejected, Loads}
 
 -- ---- the loop
 
@@ -103,13 +103,22 @@ module _ (d : DefaultSchedule) (sheet : List ℕ) where
 
 -- over all sheets
 
-until-all : (d : DefaultSchedule) (sheets : List (List ℕ)) → ((sheet : List ℕ) → List·Memᴰ sheet sheets → Schedule sheet → ⊥) → after d sheets ≡ d
+until-all : (d : DefaultSchedule) (sheets : List (List ℕ)) → Rejected sheets → after d sheets ≡ d
 unfolding after
 until-all d [] h = refl
 until-all d (sheet ∷ sheets) h =
     let r : loading d sheet .schedule ≡ d
     = kept-by d sheet (unfitSchedule sheet) refl (rejected-by d sheet (unfitSchedule sheet) refl (h sheet (List·Memᴰ·head refl))) in
     ap (λ (x : DefaultSchedule). after x sheets) r ∙ until-all d sheets (λ x m. h x (List·Memᴰ·tail m))
+
+after-latest :
+    (d : DefaultSchedule) (sheets : List (List ℕ)) (sheet : List ℕ) → Schedule sheet → (later : List (List ℕ)) → Rejected later →
+    pairsIn (after d (sheets ++ sheet ∷ later)) ≡ sheet
+unfolding after
+after-latest d [] sheet y later h =
+    let e : unfitSchedule sheet ≡ false = schedules sheet .1 y in
+    ap pairsIn (until-all (loading d sheet .schedule) later h) ∙ taken-by d sheet false e (accepted-by d sheet false e)
+after-latest d (x ∷ sheets) sheet y later h = after-latest (loading d x .schedule) sheets sheet y later h
 
 fit-all : (d : DefaultSchedule) (sheets : List (List ℕ)) → unfitSchedule (pairsIn d) ≡ false → unfitSchedule (pairsIn (after d sheets)) ≡ false
 unfolding after
@@ -136,6 +145,7 @@ loads =
       kept = λ d sheet. kept-by d sheet (unfitSchedule sheet) refl;
       first = at-first;
       until = until-all atFirst;
+      latest = after-latest;
       fit = fits;
     }
 

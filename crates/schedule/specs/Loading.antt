@@ -3,7 +3,7 @@ use Prim.Native.Nat.{ℕ}
 use mathlib.Core.Path.{_≡_}
 use mathlib.Core.Logic.{_↔_}
 use mathlib.Core.Bool.{true, false, cond}
-use mathlib.Core.List.{List, [], _∷_, List·Memᴰ}
+use mathlib.Core.List.{List, [], _∷_, _++_, List·Memᴰ}
 use lib.ListN.{length, take, replicate}
 use Rattle.graph.specs.Lists.{none, over}
 use Rattle.search.specs.Job.{standard}
@@ -31,6 +31,10 @@ unfoldable pub after : DefaultSchedule → List (List ℕ) → DefaultSchedule
 after d [] = d
 after d (sheet ∷ sheets) = after (loading d sheet .schedule) sheets
 
+-- none of the sheets is a schedule, and so each is rejected
+abbrev pub Rejected : List (List ℕ) → Type 0
+Rejected sheets = (sheet : List ℕ) → List·Memᴰ sheet sheets → Schedule sheet → ⊥
+
 -- the sentences of E3 about loading; proved in proofs/Loading
 pub record Loads : Type 0 where
   -- a sheet is tested by the rules for schedules, and an empty one is none
@@ -39,8 +43,11 @@ pub record Loads : Type 0 where
   pub taken : (d : DefaultSchedule) (sheet : List ℕ) → loading d sheet .accepted ≡ true → pairsIn (loading d sheet .schedule) ≡ sheet
   -- a rejected one leaves the previous one in force
   pub kept : (d : DefaultSchedule) (sheet : List ℕ) → loading d sheet .accepted ≡ false → loading d sheet .schedule ≡ d
-  -- at first our six, and they stand until a sheet is accepted
+  -- at first our six, and they stand until a sheet is accepted; then the latest accepted one
   pub first : pairsIn atFirst ≡ standard
-  pub until : (sheets : List (List ℕ)) → ((sheet : List ℕ) → List·Memᴰ sheet sheets → Schedule sheet → ⊥) → after atFirst sheets ≡ atFirst
+  pub until : (sheets : List (List ℕ)) → Rejected sheets → after atFirst sheets ≡ atFirst
+  pub latest :
+      (d : DefaultSchedule) (sheets : List (List ℕ)) (sheet : List ℕ) → Schedule sheet → (later : List (List ℕ)) → Rejected later →
+      pairsIn (after d (sheets ++ sheet ∷ later)) ≡ sheet
   -- whatever sheets were loaded in whatever order, row 10 passes what is in force
   pub fit : (sheets : List (List ℕ)) → scheduleRow (pairsIn (after atFirst sheets)) ≡ none
