@@ -109,7 +109,8 @@ until-all d [] h = refl
 until-all d (sheet ∷ sheets) h =
     let r : loading d sheet .schedule ≡ d
     = kept-by d sheet (unfitSchedule sheet) refl (rejected-by d sheet (unfitSchedule sheet) refl (h sheet (List·Memᴰ·head refl))) in
-    ap (λ (x : DefaultSchedule). after x sheets) r ∙ until-all d sheets (λ x m. h x (List·Memᴰ·tail m))
+    let s : after d (sheet ∷ sheets) ≡ after d sheets = cc in
+    s ∙ until-all d sheets (λ x m. h x (List·Memᴰ·tail m))
 
 after-latest :
     (d : DefaultSchedule) (sheets : List (List ℕ)) (sheet : List ℕ) → Schedule sheet → (later : List (List ℕ)) → Rejected later →
