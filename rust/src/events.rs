@@ -413,10 +413,7 @@ impl Events {
             ..
         } = answer
         {
-            let asked = match job.schedule.len() {
-                0 => 6,
-                length => length / 2,
-            };
+            let asked = job.factors().len() / 2;
             self.all_rounds += u64::from(rounds as usize == asked);
             self.free_walk += u64::from(cost == 0 && length > 1);
             self.wide_route += u64::from(is_wide(cost));

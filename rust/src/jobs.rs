@@ -24,6 +24,7 @@ pub struct Job {
     pub guides: Vec<u32>,
     pub guide_count: u32,
     pub schedule: Vec<u32>,
+    pub default_schedule: Vec<u32>,
     pub budget: u32,
     pub route_room: usize,
     pub log_room: usize,
@@ -32,7 +33,8 @@ pub struct Job {
 }
 
 impl Job {
-    /// A job on a valid plan with full room that bars nothing.
+    /// A job on a valid plan with full room that bars nothing; its default
+    /// schedule is the standard one.
     #[allow(clippy::too_many_arguments)]
     pub fn new(
         plan: &Plan,
@@ -54,6 +56,7 @@ impl Job {
             guides,
             guide_count,
             schedule,
+            default_schedule: planner::STANDARD_SCHEDULE.to_vec(),
             budget,
             route_room: vertices,
             log_room: 64,
@@ -64,7 +67,7 @@ impl Job {
 
     /// The factors that its rounds have, W1 and W2 of each.
     pub fn factors(&self) -> &[u32] {
-        planner::in_force(&self.schedule)
+        planner::in_force(&self.schedule, &self.default_schedule)
     }
 
     /// The job with room in its log for all its turns: 2·V in each round.
@@ -86,6 +89,7 @@ impl Job {
             guides: &self.guides,
             guide_count: self.guide_count,
             schedule: &self.schedule,
+            default_schedule: &self.default_schedule,
             budget: self.budget,
         }
     }
@@ -126,7 +130,7 @@ impl Job {
         (answer, events)
     }
 
-    /// The job as the bench program's bytes.
+    /// The job as the bench program's bytes, which say no default schedule.
     pub fn bench_bytes(&self) -> Vec<u8> {
         let mut bytes = Vec::new();
         generate::push_number(&mut bytes, self.bytes.len() as u32);
@@ -151,7 +155,7 @@ pub fn random_schedule(random: &mut Random) -> Vec<u32> {
     match random.below(12) {
         0 => return Vec::new(),
         1 => return vec![100, 100],
-        2 => return planner::HOUSE_SCHEDULE.to_vec(),
+        2 => return planner::STANDARD_SCHEDULE.to_vec(),
         _ => {}
     }
     let rounds = match random.below(10) {

@@ -22,17 +22,23 @@ pub const NO_OPINION: u32 = u32::MAX;
 /// The greatest number on a guide sheet that is an opinion.
 pub const MOST_OPINION: u32 = NO_OPINION - 1;
 
-/// W1 and W2 of each round where the schedule is empty.
-pub const HOUSE_SCHEDULE: [u32; 12] = [500, 500, 300, 300, 200, 200, 150, 150, 120, 120, 100, 100];
+/// W1 and W2 of our six rounds: the paper's house schedule until a site loads
+/// its own.
+pub const STANDARD_SCHEDULE: [u32; 12] =
+    [500, 500, 300, 300, 200, 200, 150, 150, 120, 120, 100, 100];
 
-/// The factors that a call's rounds have: its schedule's, or the house
-/// schedule's if that is empty.
-pub fn in_force(schedule: &[u32]) -> &[u32] {
+/// The factors that a call's rounds have: its schedule's, or if that is empty
+/// the default schedule's, which the paper calls the house schedule.
+pub fn in_force<'a>(schedule: &'a [u32], default_schedule: &'a [u32]) -> &'a [u32] {
     match schedule {
-        [] => &HOUSE_SCHEDULE,
+        [] => default_schedule,
         schedule => schedule,
     }
 }
+
+/// The most factors of a schedule, and the greatest of them.
+pub const MOST_FACTORS: usize = 32;
+pub const MOST_FACTOR: u32 = 10_000;
 
 /// A barred number has a bit for each class and is from 0 to this.
 pub const MOST_BARRED: u32 = 255;
@@ -50,7 +56,8 @@ pub fn wide_numbers(vertices: usize) -> usize {
 /// What one planner call is asked: the paper's job. Bit k of `barred` bars
 /// the edges of class k. The guide sheets stand one after another, with
 /// [`NO_OPINION`] where a guide has none; the schedule has W1 and W2 of each
-/// round.
+/// round, and so has the default one, the paper's house schedule, which is
+/// looked at only if the schedule is empty.
 #[derive(Clone, Copy, Debug)]
 pub struct Request<'a> {
     pub bytes: &'a [u8],
@@ -61,6 +68,7 @@ pub struct Request<'a> {
     pub guides: &'a [u32],
     pub guide_count: u32,
     pub schedule: &'a [u32],
+    pub default_schedule: &'a [u32],
     pub budget: u32,
 }
 
@@ -996,12 +1004,15 @@ impl<O: Onlooker> Search<'_, O> {
     }
 }
 
-fn bad_schedule(schedule: &[u32]) -> bool {
-    schedule.len() > 32
+/// Whether row 10 refuses the factors of a call's rounds, or of a sheet that a
+/// site loads for its default schedule.
+pub fn is_bad_schedule(schedule: &[u32]) -> bool {
+    schedule.is_empty()
+        || schedule.len() > MOST_FACTORS
         || schedule.len() % 2 == 1
         || schedule
             .iter()
-            .any(|factor| !(100..=10_000).contains(factor))
+            .any(|factor| !(100..=MOST_FACTOR).contains(factor))
         || schedule
             .iter()
             .zip(schedule.iter().skip(2))
@@ -1050,7 +1061,7 @@ fn plan_with<O: Onlooker>(request: &Request, memory: Memory, onlooker: O) -> Ans
         Err(Refusal { number, position }) => return Answer::Refused { number, position },
     };
     let mut search = loaded(request, memory, counts, onlooker);
-    let end = search.run(in_force(request.schedule));
+    let end = search.run(in_force(request.schedule, request.default_schedule));
     let turns = search.turns;
     match end {
         End::Route => {
@@ -1113,7 +1124,7 @@ fn admitted(
     {
         return refused(9, 0);
     }
-    if bad_schedule(request.schedule) {
+    if is_bad_schedule(in_force(request.schedule, request.default_schedule)) {
         return refused(10, 0);
     }
     if room.is_short(vertices, edges) {

@@ -4,14 +4,13 @@
 
 use crate::bench_text::{answer_text, logged, refused};
 use crate::jobs::Job;
-use crate::planner::{in_force, wide_numbers, work_words, Answer, Memory};
+use crate::planner::{
+    in_force, wide_numbers, work_words, Answer, Memory, MOST_FACTORS, STANDARD_SCHEDULE,
+};
 use crate::planners::{printed, Planner};
 use crate::reference::{MOST_EDGES, MOST_VERTICES};
 use crate::refusals::Taker;
 use crate::text::TextJob;
-
-/// The factors of the longest schedule.
-const MOST_FACTORS: usize = 32;
 
 /// What a planner prints for a job.
 pub fn run(planner: &dyn Planner, job: &TextJob) -> String {
@@ -34,7 +33,8 @@ pub fn asked(job: &TextJob) -> Option<Job> {
         (places, plan.lanes.len().min(MOST_EDGES as usize))
     });
     let (anchor, guides) = numbers.split_at(places.min(numbers.len()));
-    let turns = places * in_force(&schedule).len().min(MOST_FACTORS);
+    let factors = in_force(&schedule, &STANDARD_SCHEDULE);
+    let turns = places * factors.len().min(MOST_FACTORS);
     Some(Job {
         bytes: lines.plan.bytes().expect("a job's plan has bytes"),
         start: lines.start.says,
@@ -44,6 +44,7 @@ pub fn asked(job: &TextJob) -> Option<Job> {
         guides: guides.to_vec(),
         guide_count: lines.tables.guide_count().says as u32,
         schedule,
+        default_schedule: STANDARD_SCHEDULE.to_vec(),
         budget: lines.allowance.says,
         route_room: places,
         log_room: turns.min(lines.allowance.says as usize),

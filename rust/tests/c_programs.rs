@@ -102,7 +102,7 @@ fn the_stack_suffices() {
     for (part, deeper) in [("1", 0), ("3", 3)] {
         let output = Command::new(&program).arg(part).output().expect("it runs");
         let text = String::from_utf8_lossy(&output.stdout);
-        assert_eq!(text.lines().count(), 8, "{text}");
+        assert_eq!(text.lines().count(), 10, "{text}");
         assert_eq!(output.status.code(), Some(deeper), "{text}");
     }
 }

@@ -14,7 +14,7 @@ use secondcoop_tests::generate;
 use secondcoop_tests::guarded::GUARD;
 use secondcoop_tests::jobs::{self, Alley, Job};
 use secondcoop_tests::lead;
-use secondcoop_tests::planner::{self, Answer, HOUSE_SCHEDULE};
+use secondcoop_tests::planner::{self, Answer, MOST_FACTORS, STANDARD_SCHEDULE};
 use secondcoop_tests::planners::{self, Library};
 use secondcoop_tests::reference::{MOST_CLASS, MOST_COST, MOST_EDGES, MOST_VERTICES};
 
@@ -55,7 +55,8 @@ fn numbers_are_those_of_the_second_planner() {
         ("MAX_COST", u64::from(MOST_COST)),
         ("MAX_CLASS", u64::from(MOST_CLASS)),
         ("MAX_BARRED", u64::from(planner::MOST_BARRED)),
-        ("HOUSE_ROUNDS", HOUSE_SCHEDULE.len() as u64 / 2),
+        ("HOUSE_NUMBERS", MOST_FACTORS as u64),
+        ("STANDARD_ROUNDS", STANDARD_SCHEDULE.len() as u64 / 2),
         ("NONE", u64::from(planner::NONE)),
         ("NO_OPINION", u64::from(planner::NO_OPINION)),
         ("UNREACHED", planner::UNREACHED),
@@ -179,7 +180,7 @@ fn no_opinion_is_one_number() {
     assert_eq!(first_turn(no_opinion - 1, no_opinion), 0);
 }
 
-/// The header's figures for the house schedule: in each of its rounds a guide
+/// The header's figures for the standard house: in each of its rounds a guide
 /// expands a place of a blind alley at exactly so many times the cheapest
 /// chain, and none dearer by 1.
 #[test]
@@ -193,7 +194,7 @@ fn a_guide_goes_as_far_as_the_header_says() {
         .expect("its end");
     let figures = figures.replace(" and", ",");
     let hundredths: Vec<u32> = figures.split(", ").map(in_hundredths).collect();
-    assert_eq!(hundredths.len(), HOUSE_SCHEDULE.len() / 2);
+    assert_eq!(hundredths.len(), STANDARD_SCHEDULE.len() / 2);
     for (round, &hundredths) in hundredths.iter().enumerate() {
         for over in [0, 1] {
             // The cheapest chain costs 100.
@@ -203,7 +204,7 @@ fn a_guide_goes_as_far_as_the_header_says() {
                 steps: vec![hundredths + over],
                 dear: None,
                 number: planner::MOST_OPINION,
-                schedule: HOUSE_SCHEDULE[2 * round..2 * round + 2].to_vec(),
+                schedule: STANDARD_SCHEDULE[2 * round..2 * round + 2].to_vec(),
             };
             let (_, job) = alley.job();
             let turns = planners::run(&Library, &job, 0).turns();

@@ -3,7 +3,7 @@
 
 use secondcoop_tests::generate::{self, Plan};
 use secondcoop_tests::planner::{
-    Answer, Memory, Request, MOST_OPINION, NONE, NO_OPINION, UNREACHED,
+    Answer, Memory, Request, MOST_OPINION, NONE, NO_OPINION, STANDARD_SCHEDULE, UNREACHED,
 };
 use secondcoop_tests::planners::{Library, Planner, SecondPlanner};
 
@@ -37,6 +37,7 @@ const JOB_A: Request = Request {
     guides: &[0, 9, 0, 0],
     guide_count: 1,
     schedule: &[200, 200, 100, 100],
+    default_schedule: &STANDARD_SCHEDULE,
     budget: 100,
 };
 
@@ -381,6 +382,7 @@ fn no_route() {
                 guides: &[],
                 guide_count: 0,
                 schedule: &[],
+                default_schedule: &STANDARD_SCHEDULE,
                 budget,
             };
             let (answer, lent) = plan(planner, &request);
@@ -563,6 +565,7 @@ fn refused_plan(planner: &dyn Planner, bytes: &[u8]) -> (u32, usize) {
         guides: &[],
         guide_count: 9,
         schedule: &[1],
+        default_schedule: &[],
         budget: 0,
     };
     refused(planner, &request, [0; 3])

@@ -426,8 +426,8 @@ fn alley([w1, w2]: [u32; 2], cheapest: u32, over: u32, later: bool) -> Alley {
     alley
 }
 
-/// Factors, with the cheapest cost that they are tried on: those of the house
-/// schedule, others, and the greatest.
+/// Factors, with the cheapest cost that they are tried on: those of the
+/// standard schedule, others, and the greatest.
 const TIGHT: [([u32; 2], u32); 9] = [
     ([500, 500], 4),
     ([300, 300], 40),

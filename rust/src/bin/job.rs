@@ -8,7 +8,7 @@ use std::process::ExitCode;
 
 use secondcoop_tests::input::{name_of, Input};
 use secondcoop_tests::lead;
-use secondcoop_tests::planner::HOUSE_SCHEDULE;
+use secondcoop_tests::planner::STANDARD_SCHEDULE;
 use secondcoop_tests::planners::{self, Library, Planner, SecondPlanner};
 use secondcoop_tests::reference::LAST_REFUSAL;
 use secondcoop_tests::refusals::{position_words, refusal_words, remarks, Taker};
@@ -118,7 +118,10 @@ impl Read {
         let lines = self.job.lines().expect("a job without faults has lines");
         let plan = lines.plan.lines().expect("its plan too");
         let rounds = match lines.rounds.len() {
-            0 => format!("the house schedule of {} rounds", HOUSE_SCHEDULE.len() / 2),
+            0 => format!(
+                "the house schedule of {} rounds",
+                STANDARD_SCHEDULE.len() / 2
+            ),
             rounds => count(rounds, "round"),
         };
         let size = match taker {
