@@ -305,10 +305,22 @@ pub enum Fault {
     AnchorLowest,
     /// g(goal) must be at most half the bound: the goal is expanded before.
     FinishLate,
+    /// Row 10 tests the call's own schedule alone.
+    DefaultUntested,
+    /// The default schedule is taken before the call's own, unless it is
+    /// empty.
+    DefaultPreferred,
+    /// Row 10 tests the default schedule too where the call has its own.
+    DefaultTestedBeside,
+    /// The standard schedule is taken in place of a default one that row 10
+    /// lets pass.
+    StandardForDefault,
+    /// An empty default schedule means the standard one.
+    StandardForEmpty,
 }
 
 /// All faults.
-pub const FAULTS: [Fault; 51] = [
+pub const FAULTS: [Fault; 56] = [
     Fault::CostOfGoal,
     Fault::OpenAgain,
     Fault::Forgotten,
@@ -360,6 +372,11 @@ pub const FAULTS: [Fault; 51] = [
     Fault::GuideByFirstLeast,
     Fault::AnchorLowest,
     Fault::FinishLate,
+    Fault::DefaultUntested,
+    Fault::DefaultPreferred,
+    Fault::DefaultTestedBeside,
+    Fault::StandardForDefault,
+    Fault::StandardForEmpty,
 ];
 
 /// Who looks on at a search: counts its events, or plants a fault.
@@ -975,10 +992,9 @@ impl<O: Onlooker> Search<'_, O> {
 
     fn run(&mut self, schedule: &[u32]) -> End {
         for (round, pair) in (1..).zip(schedule.chunks_exact(2)) {
-            let factors = Factors {
-                w1: pair[0].into(),
-                w2: pair[1].into(),
-            };
+            // Only a faulty planner has factors above the limit.
+            let [w1, w2] = [pair[0], pair[1]].map(|factor| factor.min(MOST_FACTOR).into());
+            let factors = Factors { w1, w2 };
             self.turns_before = self.turns;
             if !(self.onlooker.has(Fault::NoBegin) && self.spent()) {
                 self.begin_round();
@@ -991,16 +1007,20 @@ impl<O: Onlooker> Search<'_, O> {
                 None => {}
                 Some(_) if self.rounds > 0 => {
                     if self.onlooker.has(Fault::BoundOfCutRound) {
-                        self.bound = pair[0] * pair[1];
+                        self.bound = (w1 * w2) as u32;
                     }
                     return End::Route;
                 }
                 Some(end) => return end,
             }
             self.finish_round(round);
-            self.bound = pair[0] * pair[1];
+            self.bound = (w1 * w2) as u32;
         }
-        End::Route
+        // Only a faulty planner has no rounds.
+        match self.kept {
+            Some(_) => End::Route,
+            None => End::Spent,
+        }
     }
 }
 
@@ -1056,12 +1076,13 @@ pub fn plan_observed_closely(
 
 fn plan_with<O: Onlooker>(request: &Request, memory: Memory, onlooker: O) -> Answer {
     let room = Room::of(&memory);
-    let counts = match admitted(request, room, &onlooker) {
+    let schedule = taken(request, &onlooker);
+    let counts = match admitted(request, schedule, room, &onlooker) {
         Ok(counts) => counts,
         Err(Refusal { number, position }) => return Answer::Refused { number, position },
     };
     let mut search = loaded(request, memory, counts, onlooker);
-    let end = search.run(in_force(request.schedule, request.default_schedule));
+    let end = search.run(schedule);
     let turns = search.turns;
     match end {
         End::Route => {
@@ -1104,9 +1125,29 @@ impl Room {
     }
 }
 
+/// The factors that a call takes for its rounds, to the end.
+fn taken<'a>(request: &Request<'a>, onlooker: &impl Onlooker) -> &'a [u32] {
+    let (own, default) = (request.schedule, request.default_schedule);
+    let good = !is_bad_schedule(default);
+    match own {
+        _ if onlooker.has(Fault::DefaultPreferred) => in_force(default, own),
+        [] if onlooker.has(Fault::StandardForDefault) && good => &STANDARD_SCHEDULE,
+        [] if onlooker.has(Fault::StandardForEmpty) => in_force(default, &STANDARD_SCHEDULE),
+        _ => in_force(own, default),
+    }
+}
+
+/// Whether row 10 refuses a call that takes these factors.
+fn has_bad_schedule(request: &Request, schedule: &[u32], onlooker: &impl Onlooker) -> bool {
+    let beside = is_bad_schedule(request.default_schedule);
+    let untested = onlooker.has(Fault::DefaultUntested) && request.schedule.is_empty();
+    is_bad_schedule(schedule) && !untested || beside && onlooker.has(Fault::DefaultTestedBeside)
+}
+
 /// V and M of a call that no row of the paper's table refuses.
 fn admitted(
     request: &Request,
+    schedule: &[u32],
     room: Room,
     onlooker: &impl Onlooker,
 ) -> Result<(usize, usize), Refusal> {
@@ -1124,7 +1165,7 @@ fn admitted(
     {
         return refused(9, 0);
     }
-    if is_bad_schedule(in_force(request.schedule, request.default_schedule)) {
+    if has_bad_schedule(request, schedule, onlooker) {
         return refused(10, 0);
     }
     if room.is_short(vertices, edges) {
