@@ -87,20 +87,26 @@ fn the_table_has_its_rows_in_order() {
     assert_eq!(rows, [1, 2, 3, 4, 6, 5, 15, 7, 8, 9, 10, 11, 12, 13, 14]);
 }
 
+/// The refusal of a call, or 0.
+fn refusal_of(job: &Job) -> u32 {
+    match planners::run(&Library, job, 0).answer() {
+        Answer::Refused { number, .. } => number,
+        _ => 0,
+    }
+}
+
+/// A job on one place, with so many guides.
+fn job(guides: u32, schedule: Vec<u32>) -> Job {
+    let plan = generate::Plan::without_edges(1);
+    let sheets = vec![0; guides as usize];
+    Job::new(&plan, 0, 0, vec![0], sheets, guides, schedule, 9)
+}
+
 /// What the limits let pass, and what is one more is refused.
 #[test]
 fn limits_of_a_call_are_exact() {
     let header = numbers();
     let number = |name: &str| header[name] as u32;
-    let refusal_of = |job: &Job| match planners::run(&Library, job, 0).answer() {
-        Answer::Refused { number, .. } => number,
-        _ => 0,
-    };
-    let job = |guides: u32, schedule: Vec<u32>| {
-        let plan = generate::Plan::without_edges(1);
-        let sheets = vec![0; guides as usize];
-        Job::new(&plan, 0, 0, vec![0], sheets, guides, schedule, 9)
-    };
     let refusal = |guides: u32, schedule: Vec<u32>| refusal_of(&job(guides, schedule));
     let (guides, rounds) = (number("MAX_GUIDES"), number("MAX_ROUNDS") as usize);
     assert_eq!([guides, guides + 1].map(|n| refusal(n, vec![])), [0, 9]);
@@ -125,6 +131,38 @@ fn limits_of_a_call_are_exact() {
         refusal_of(&Job::new(&plan, 0, 0, vec![0], vec![], 0, vec![], 9))
     });
     assert_eq!(costs, [0, 0, 0, 5]);
+}
+
+/// A house has as many numbers as the most rounds, and the same limits where
+/// it is loaded and where a call takes it.
+#[test]
+fn limits_of_a_house_are_exact() {
+    let header = numbers();
+    let number = |name: &str| header[name] as u32;
+    let (most, rounds) = (number("HOUSE_NUMBERS"), number("MAX_ROUNDS"));
+    assert_eq!(most, 2 * rounds);
+    let (low, high) = (number("MIN_FACTOR"), number("MAX_FACTOR"));
+    for (factor, length, refusal) in [
+        (low, 0, 10),
+        (low, 1, 10),
+        (low, 2, 0),
+        (low, most, 0),
+        (low, most + 1, 10),
+        (low, most + 2, 10),
+        (low - 1, 2, 10),
+        (high, 2, 0),
+        (high + 1, 2, 10),
+    ] {
+        let mut job = job(0, vec![]);
+        job.default_schedule = vec![factor; length as usize];
+        let (mut house, mut count) = ([0; MOST_FACTORS], 0);
+        let loaded = ffi::load_default_schedule(&job.default_schedule, &mut house, &mut count);
+        assert_eq!(
+            [loaded, refusal_of(&job)],
+            [refusal; 2],
+            "{factor} {length}"
+        );
+    }
 }
 
 /// 2·V turns for the first round, 2·V times the rounds for all.
@@ -260,7 +298,8 @@ fn a_table_of_zeros_passes() {
 fn several_threads_may_call() {
     let mut shared: Vec<Job> = Vec::new();
     jobs::valid_jobs(54, 300, &mut |_, job| shared.push(job.clone()));
-    // Every function: numbers, the plan read and written, the call, the text.
+    // Every function: numbers, the plan read and written, the house, the call,
+    // the text.
     let all = |job: &Job| {
         let numbers = [
             ffi::read_plan_number(&job.bytes, 1),
@@ -275,8 +314,13 @@ fn several_threads_may_call() {
         assert_eq!(out, job.bytes);
         let number = ffi::write_plan_number(&mut out, 0, vertices as u32);
         let text = planners::run_text(&Library, &job.bench_bytes(), 5_000, 0);
+        let (mut house, mut count) = ([0; MOST_FACTORS], 0);
+        ffi::standard_schedule(&mut house, &mut count);
+        let loaded = ffi::load_default_schedule(&job.default_schedule, &mut house, &mut count);
+        let house = (loaded, house, count);
         let outcome = planners::run(&Library, job, 0);
-        (numbers, lists, [read, written, number], text, outcome)
+        let figures = [read, written, number];
+        (numbers, lists, figures, text, house, outcome)
     };
     let alone: Vec<_> = shared.iter().map(all).collect();
     thread::scope(|scope| {
