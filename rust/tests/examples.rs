@@ -150,7 +150,7 @@ fn a_silly_guide_is_kept_on_its_lead() {
     for planner in [&Library as &dyn Planner, &SecondPlanner] {
         for (text, alley) in [(&text, &[0, 4, 5, 6][..]), (&longer, &[0, 4, 5])] {
             let job = TextJob::parse(text).expect("a text form");
-            let job = run::asked(&job).expect("a job");
+            let job = run::asked(&Library, &job).expect("a job");
             let turns = lead::of_log(planner, &job);
             let (guides, anchor) = turns.split_at(alley.len());
             assert!(guides.iter().all(|turn| turn.table == 1));

@@ -111,7 +111,7 @@ fn a_comment_in_latin_1_is_a_comment() {
     // Outside a comment its line is told.
     let text = [b"places 4\nl\xE4ne 0 1 1".as_slice()].concat();
     let words = "standard input: line 2: 'l\u{e4}ne' begins no line; a line is places, lane, \
-                 start, goal, barred, allowance, round, anchor, guide\n";
+                 start, goal, barred, allowance, round, house, anchor, guide\n";
     assert_eq!(job(&["check"], text), left(4, "", words));
 }
 
@@ -133,7 +133,7 @@ fn a_wrong_pair_is_told() {
     ] {
         let words = format!(
             "standard input: line 2: '{word}' is neither the first word of a line (places, lane, \
-             start, goal, barred, allowance, round, anchor, guide) nor a hexadecimal pair such as 0E; \
+             start, goal, barred, allowance, round, house, anchor, guide) nor a hexadecimal pair such as 0E; \
              pairs stand apart\n"
         );
         let text = format!("# a comment\n{word} 04 places\n");
