@@ -70,6 +70,17 @@ impl Job {
         planner::in_force(&self.schedule, &self.default_schedule)
     }
 
+    /// The job as bytes can say it: a default schedule that is in force, unless
+    /// it is the standard one, becomes its own.
+    pub fn as_bench_job(&self) -> Job {
+        let mut job = self.clone();
+        if job.schedule.is_empty() && job.default_schedule != planner::STANDARD_SCHEDULE {
+            job.schedule = job.default_schedule;
+        }
+        job.default_schedule = planner::STANDARD_SCHEDULE.to_vec();
+        job
+    }
+
     /// The job with room in its log for all its turns: 2·V in each round.
     pub fn with_whole_log(&self) -> Job {
         Job {
