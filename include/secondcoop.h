@@ -36,8 +36,9 @@
  * - The libraries are for x86-64 with the System V calling convention (ELF
  *   objects, as on Linux; position-independent, without unwind tables) and
  *   need `memset` from outside, nothing else.
- * - A call needs SECONDCOOP_STACK bytes of stack at most, secondcoop_plan
- *   SECONDCOOP_PLAN_STACK, secondcoop_bench_text SECONDCOOP_TEXT_STACK.
+ * - A call needs SECONDCOOP_STACK bytes of stack at most, secondcoop_load_house
+ *   SECONDCOOP_HOUSE_STACK, secondcoop_plan SECONDCOOP_PLAN_STACK,
+ *   secondcoop_bench_text SECONDCOOP_TEXT_STACK.
  * - `rt staticlib NAME` makes target/staticlib/libNAME.a: ffi_numbers has the
  *   functions on numbers, ffi_plans those on plans, ffi_planner those on
  *   houses, planner calls and bench jobs. A program links those that it calls.
@@ -160,9 +161,11 @@ extern "C" {
 #define SECONDCOOP_TURNS(places, rounds) \
     (UINT32_C(2) * (uint32_t)(places) * (uint32_t)(rounds))
 
-/* Stack of a call, in bytes: of each function on numbers, plans or houses, of
- * secondcoop_plan, of secondcoop_bench_text. Measured, with room to spare. */
+/* Stack of a call, in bytes: of each function but those that follow, of
+ * secondcoop_load_house, of secondcoop_plan, of secondcoop_bench_text.
+ * Measured, with room to spare. */
 #define SECONDCOOP_STACK 1024
+#define SECONDCOOP_HOUSE_STACK 8192
 #define SECONDCOOP_PLAN_STACK 16384
 #define SECONDCOOP_TEXT_STACK 94208
 

@@ -228,7 +228,7 @@ int main(int count, char **arguments)
         {"check_plan", check_plan, 2, SECONDCOOP_STACK},
         {"read_plan", read_plan, 2, SECONDCOOP_STACK},
         {"standard_house", standard_house, 1, SECONDCOOP_STACK},
-        {"load_house", load_house, 3, SECONDCOOP_STACK},
+        {"load_house", load_house, 3, SECONDCOOP_HOUSE_STACK},
         {"plan", plan_call, PLAN_CALLS, SECONDCOOP_PLAN_STACK},
         {"bench_text", bench_text, TEXTS, SECONDCOOP_TEXT_STACK},
     };
