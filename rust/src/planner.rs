@@ -1128,20 +1128,22 @@ impl Room {
 /// The factors that a call takes for its rounds, to the end.
 fn taken<'a>(request: &Request<'a>, onlooker: &impl Onlooker) -> &'a [u32] {
     let (own, default) = (request.schedule, request.default_schedule);
-    let good = !is_bad_schedule(default);
+    let has = |fault| onlooker.has(fault);
     match own {
-        _ if onlooker.has(Fault::DefaultPreferred) => in_force(default, own),
-        [] if onlooker.has(Fault::StandardForDefault) && good => &STANDARD_SCHEDULE,
-        [] if onlooker.has(Fault::StandardForEmpty) => in_force(default, &STANDARD_SCHEDULE),
+        _ if has(Fault::DefaultPreferred) => in_force(default, own),
+        [] if has(Fault::StandardForEmpty) => in_force(default, &STANDARD_SCHEDULE),
+        [] if has(Fault::StandardForDefault) && !is_bad_schedule(default) => &STANDARD_SCHEDULE,
         _ => in_force(own, default),
     }
 }
 
 /// Whether row 10 refuses a call that takes these factors.
-fn has_bad_schedule(request: &Request, schedule: &[u32], onlooker: &impl Onlooker) -> bool {
-    let beside = is_bad_schedule(request.default_schedule);
-    let untested = onlooker.has(Fault::DefaultUntested) && request.schedule.is_empty();
-    is_bad_schedule(schedule) && !untested || beside && onlooker.has(Fault::DefaultTestedBeside)
+fn is_refused_for(schedule: &[u32], request: &Request, onlooker: &impl Onlooker) -> bool {
+    if onlooker.has(Fault::DefaultUntested) && request.schedule.is_empty() {
+        return false;
+    }
+    let beside = onlooker.has(Fault::DefaultTestedBeside);
+    is_bad_schedule(schedule) || beside && is_bad_schedule(request.default_schedule)
 }
 
 /// V and M of a call that no row of the paper's table refuses.
@@ -1165,7 +1167,7 @@ fn admitted(
     {
         return refused(9, 0);
     }
-    if has_bad_schedule(request, schedule, onlooker) {
+    if is_refused_for(schedule, request, onlooker) {
         return refused(10, 0);
     }
     if room.is_short(vertices, edges) {

@@ -26,7 +26,7 @@ pub fn refusal_words(number: u32) -> Option<&'static str> {
         10 => {
             "the schedule, or the house schedule where it is empty, has over 16 rounds, half a \
              round, a factor outside 100 to 10000 or a factor that rises, or both are empty; a \
-             site's sheet is rejected for the same, and the house schedule stays what it was"
+             sheet for the house schedule is rejected for the same, and it stays what it was"
         }
         11 => "lent memory is too short",
         12 => "the anchor table is not 0 at the goal",
@@ -78,9 +78,10 @@ pub enum Taker {
 
 impl Taker {
     /// Who plans a job: the bench program, or the planner call where it has
-    /// more bytes, places or lanes than the bench program takes, or a sheet.
+    /// more bytes, places or lanes than the bench program takes, or a sheet for
+    /// the default schedule.
     pub fn of(job: &TextJob) -> Taker {
-        match is_large(job) || job.first_of_sheet().is_some() {
+        match is_large(job) || job.default_line().is_some() {
             true => Taker::Call,
             false => Taker::Bench,
         }
@@ -138,8 +139,9 @@ pub fn remarks(job: &TextJob, taker: Taker) -> Vec<Remark> {
     remarks.0
 }
 
-/// Why a job's sheet is rejected; without remarks it is loaded.
-pub fn sheet_remarks(job: &TextJob) -> Vec<Remark> {
+/// Why a job's sheet for the default schedule is rejected; without remarks it
+/// is loaded.
+pub fn default_remarks(job: &TextJob) -> Vec<Remark> {
     let mut remarks = Remarks(Vec::new());
     if let Ok(lines) = job.lines() {
         remarks.most_rounds(&lines.default_schedule, 10);

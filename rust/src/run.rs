@@ -18,7 +18,7 @@ fn factors(pairs: &[Line<[u32; 2]>]) -> Vec<u32> {
 
 /// The default schedule that a job is planned on: the standard one, or its
 /// sheet's if that is accepted; and the refusal's number, or 0.
-pub fn load_sheet(loader: &dyn Loader, job: &TextJob) -> (DefaultSchedule, u32) {
+pub fn loaded_default(loader: &dyn Loader, job: &TextJob) -> (DefaultSchedule, u32) {
     let (mut numbers, mut count) = ([0; MOST_FACTORS], 0);
     loader.standard_schedule(&mut numbers, &mut count);
     let sheet = job
@@ -31,7 +31,7 @@ pub fn load_sheet(loader: &dyn Loader, job: &TextJob) -> (DefaultSchedule, u32) 
     (DefaultSchedule { numbers, count }, refusal)
 }
 
-/// What a planner prints for a job; it loads the job's sheet too.
+/// What a planner prints for a job, whose default schedule it loads too.
 pub fn run(planner: &(impl Planner + Loader), job: &TextJob) -> String {
     match Taker::of(job) {
         Taker::Bench => printed(planner, &job.bytes()),
@@ -46,7 +46,7 @@ pub fn run(planner: &(impl Planner + Loader), job: &TextJob) -> String {
 pub fn asked(loader: &dyn Loader, job: &TextJob) -> Option<Job> {
     let lines = job.lines().ok()?;
     let numbers = lines.tables.numbers().ok()?;
-    let (default_schedule, _) = load_sheet(loader, job);
+    let (default_schedule, _) = loaded_default(loader, job);
     let (schedule, default_schedule) = (factors(&lines.rounds), default_schedule.in_force());
     let (places, lanes) = lines.plan.lines().map_or((0, 0), |plan| {
         let places = plan.places.says.min(MOST_VERTICES) as usize;

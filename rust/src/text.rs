@@ -600,7 +600,7 @@ impl TextJob {
         parts.finish()
     }
 
-    /// The job's bytes; they do not say its sheet.
+    /// The job's bytes; they do not say its default schedule.
     pub fn bytes(&self) -> Vec<u8> {
         match self {
             TextJob::Lines(lines) => lines.bytes(),
@@ -608,8 +608,8 @@ impl TextJob {
         }
     }
 
-    /// The line where its sheet begins, which bytes cannot say.
-    pub fn first_of_sheet(&self) -> Option<usize> {
+    /// The line where its default schedule begins, which bytes cannot say.
+    pub fn default_line(&self) -> Option<usize> {
         match self {
             TextJob::Lines(lines) => lines.default_schedule.first().map(|pair| pair.number),
             TextJob::Bytes(_) => None,

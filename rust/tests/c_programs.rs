@@ -67,7 +67,7 @@ fn job_a_is_planned() {
 }
 
 #[test]
-fn a_cold_store_loads_its_house() {
+fn a_cold_store_is_planned() {
     let output = build_and_run("examples/cold_store.c");
     let text = String::from_utf8_lossy(&output.stdout);
     assert!(output.status.success(), "{text}");

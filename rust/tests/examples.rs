@@ -1,5 +1,5 @@
 //! The files in `examples`: each text form gives the bytes beside it, but for
-//! one with a sheet for the house schedule, and the library and the second
+//! one with a sheet for the default schedule, and the library and the second
 //! planner print the text beside them.
 
 use std::fs;
@@ -179,10 +179,10 @@ fn a_silly_guide_is_kept_on_its_lead() {
 }
 
 /// The cold store's floor is that of the wall, and so is its job but for the
-/// sheet. On its own house schedule both planners print what stands beside
-/// it: other turns, more rounds, the same route.
+/// sheet for the default schedule. On that both planners print what stands
+/// beside it: other turns, more rounds, the same route.
 #[test]
-fn a_cold_store_is_planned_on_its_own_house_schedule() {
+fn a_cold_store_is_planned_on_its_own_default_schedule() {
     let (text, wall) = (read_text("cold-store", "txt"), read_text("wall", "txt"));
     let job = TextJob::parse(&text).expect("a text form");
     let lines = job.to_string();

@@ -133,10 +133,10 @@ fn limits_of_a_call_are_exact() {
     assert_eq!(costs, [0, 0, 0, 5]);
 }
 
-/// A house has as many numbers as the most rounds, and the same limits where
-/// it is loaded and where a call takes it.
+/// A default schedule, the header's house, has as many numbers as the most
+/// rounds, and the same limits where it is loaded and where a call takes it.
 #[test]
-fn limits_of_a_house_are_exact() {
+fn limits_of_a_default_schedule_are_exact() {
     let header = numbers();
     let number = |name: &str| header[name] as u32;
     let (most, rounds) = (number("HOUSE_NUMBERS"), number("MAX_ROUNDS"));
@@ -155,8 +155,8 @@ fn limits_of_a_house_are_exact() {
     ] {
         let mut job = job(0, vec![]);
         job.default_schedule = vec![factor; length as usize];
-        let (mut house, mut count) = ([0; MOST_FACTORS], 0);
-        let loaded = ffi::load_default_schedule(&job.default_schedule, &mut house, &mut count);
+        let (mut default, mut count) = ([0; MOST_FACTORS], 0);
+        let loaded = ffi::load_default_schedule(&job.default_schedule, &mut default, &mut count);
         assert_eq!(
             [loaded, refusal_of(&job)],
             [refusal; 2],
@@ -298,8 +298,8 @@ fn a_table_of_zeros_passes() {
 fn several_threads_may_call() {
     let mut shared: Vec<Job> = Vec::new();
     jobs::valid_jobs(54, 300, &mut |_, job| shared.push(job.clone()));
-    // Every function: numbers, the plan read and written, the house, the call,
-    // the text.
+    // Every function: numbers, the plan read and written, the default schedule,
+    // the call, the text.
     let all = |job: &Job| {
         let numbers = [
             ffi::read_plan_number(&job.bytes, 1),
@@ -314,13 +314,13 @@ fn several_threads_may_call() {
         assert_eq!(out, job.bytes);
         let number = ffi::write_plan_number(&mut out, 0, vertices as u32);
         let text = planners::run_text(&Library, &job.bench_bytes(), 5_000, 0);
-        let (mut house, mut count) = ([0; MOST_FACTORS], 0);
-        ffi::standard_schedule(&mut house, &mut count);
-        let loaded = ffi::load_default_schedule(&job.default_schedule, &mut house, &mut count);
-        let house = (loaded, house, count);
+        let (mut default, mut count) = ([0; MOST_FACTORS], 0);
+        ffi::standard_schedule(&mut default, &mut count);
+        let loaded = ffi::load_default_schedule(&job.default_schedule, &mut default, &mut count);
+        let default = (loaded, default, count);
         let outcome = planners::run(&Library, job, 0);
         let figures = [read, written, number];
-        (numbers, lists, figures, text, house, outcome)
+        (numbers, lists, figures, text, default, outcome)
     };
     let alone: Vec<_> = shared.iter().map(all).collect();
     thread::scope(|scope| {

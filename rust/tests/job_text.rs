@@ -7,7 +7,7 @@ use secondcoop_tests::generate::push_number;
 use secondcoop_tests::jobs;
 use secondcoop_tests::planners::{is_refusal, kind_of_text, KINDS};
 use secondcoop_tests::random::Random;
-use secondcoop_tests::refusals::{remarks, sheet_remarks, Remark, Taker};
+use secondcoop_tests::refusals::{default_remarks, remarks, Remark, Taker};
 use secondcoop_tests::text::{begins, pairs, pairs_text, Begins, PlanLines, TextJob};
 
 /// Job A of the paper.
@@ -145,7 +145,7 @@ fn the_lines_of_a_sheet() {
     let text = on_a_sheet(&[[700, 600], [700, 100], [99, 4_294_967_295]]);
     let job = TextJob::parse(&text).unwrap();
     assert_eq!(format!("# Job A\n{job}"), text);
-    assert_eq!(job.first_of_sheet(), Some(11));
+    assert_eq!(job.default_line(), Some(11));
     assert_eq!(Taker::of(&job), Taker::Call);
     let lines = job.lines().unwrap();
     let pairs: Vec<_> = lines
@@ -158,7 +158,7 @@ fn the_lines_of_a_sheet() {
         [(11, [700, 600]), (12, [700, 100]), (13, [99, u32::MAX])]
     );
     let without = TextJob::parse(&on_a_sheet(&[])).unwrap();
-    assert_eq!(without.first_of_sheet(), None);
+    assert_eq!(without.default_line(), None);
     assert_eq!(Taker::of(&without), Taker::Bench);
     assert_eq!(job.bytes(), without.bytes());
     // They stand anywhere, beside rounds too.
@@ -175,7 +175,10 @@ fn a_sheet_that_is_rejected_is_told() {
     let words = |pairs: &[[u32; 2]]| {
         let job = TextJob::parse(&on_a_sheet(pairs)).unwrap();
         assert_eq!(remarks(&job, Taker::of(&job)), []);
-        let remarks: Vec<String> = sheet_remarks(&job).iter().map(Remark::to_string).collect();
+        let remarks: Vec<String> = default_remarks(&job)
+            .iter()
+            .map(Remark::to_string)
+            .collect();
         remarks.join("; ")
     };
     assert_eq!(words(&[]), "");

@@ -105,6 +105,27 @@ fn job_a_word_for_word() {
     });
 }
 
+/// Job A on its schedule as the default one, the paper's house schedule, is job
+/// A; beside its own schedule no default one is looked at.
+#[test]
+fn job_a_on_a_default_schedule() {
+    let words = |lent: Lent| (lent.route, lent.log, lent.work, lent.wide);
+    on_both(|planner| {
+        let (answer, lent) = job_a(planner, 100);
+        let expected = (answer, words(lent));
+        let (own, bad): (&[u32], &[u32]) = (JOB_A.schedule, &[100, 100, 101, 100]);
+        for (schedule, default_schedule) in [(&[][..], own), (own, &[]), (own, bad), (own, own)] {
+            let request = Request {
+                schedule,
+                default_schedule,
+                ..JOB_A
+            };
+            let (answer, lent) = plan(planner, &request);
+            assert_eq!((answer, words(lent)), expected);
+        }
+    });
+}
+
 #[test]
 fn job_a_with_budget_3() {
     on_both(|planner| {
@@ -400,11 +421,13 @@ fn no_route() {
 #[test]
 fn start_is_goal() {
     on_both(|planner| {
-        for (schedule, rounds, bound) in [
-            (&[][..], 6, 10_000),
-            (&[200, 150], 1, 30_000),
-            (&[200, 150, 200, 120], 2, 24_000),
-            (&[10_000; 32], 16, 100_000_000),
+        for (schedule, default_schedule, rounds, bound) in [
+            (&[][..], &STANDARD_SCHEDULE[..], 6, 10_000),
+            (&[200, 150], &[], 1, 30_000),
+            (&[200, 150, 200, 120], &STANDARD_SCHEDULE, 2, 24_000),
+            (&[10_000; 32], &[100, 100], 16, 100_000_000),
+            (&[], &[200, 150], 1, 30_000),
+            (&[], &[10_000; 32], 16, 100_000_000),
         ] {
             let request = Request {
                 start: 1,
@@ -413,6 +436,7 @@ fn start_is_goal() {
                 guides: &[9; 8],
                 guide_count: 2,
                 schedule,
+                default_schedule,
                 budget: 0,
                 ..JOB_A
             };

@@ -1,14 +1,15 @@
-//! The site's own house schedule, on the library and on the second
-//! implementation: which sheets are loaded and what they leave, and calls
-//! that take the house for their schedule.
+//! The default schedule, the paper's house schedule of a site, on the library
+//! and on the second implementation: which sheets are loaded and what they
+//! leave, and calls that take it for their schedule.
 
 use secondcoop_tests::asked::seed;
 use secondcoop_tests::bench_text::answer_text;
 use secondcoop_tests::default_schedule::{DefaultSchedule, Numbers};
+use secondcoop_tests::dijkstra;
 use secondcoop_tests::generate::Plan;
 use secondcoop_tests::guarded::{Guarded, GUARD};
 use secondcoop_tests::jobs::{self, Job};
-use secondcoop_tests::planner::{MOST_FACTORS, STANDARD_SCHEDULE};
+use secondcoop_tests::planner::{Answer, MOST_FACTORS, STANDARD_SCHEDULE};
 use secondcoop_tests::planners::{
     self, printed, Comparison, Lent, Library, Loader, Outcome, Planner, SecondPlanner,
 };
@@ -27,20 +28,20 @@ struct Loaded {
     sheet: Vec<u32>,
 }
 
-/// A sheet and a house in guarded memory.
-fn lent(sheet: &[u32], house: &DefaultSchedule, salt: u64) -> [Guarded<u32>; 3] {
-    [sheet, &house.numbers, &[house.count]]
+/// A sheet and a default schedule in guarded memory.
+fn lent(sheet: &[u32], default: &DefaultSchedule, salt: u64) -> [Guarded<u32>; 3] {
+    [sheet, &default.numbers, &[default.count]]
         .map(|contents| Guarded::with_contents(contents, salt + contents.len() as u64))
 }
 
-/// The numbers of a house in guarded memory.
+/// The numbers of a default schedule in guarded memory.
 fn numbers_of(lent: &mut Guarded<u32>) -> &mut Numbers {
     lent.lent_mut().try_into().expect("32 numbers")
 }
 
-/// Loads a sheet over a house.
-fn load(loader: &dyn Loader, sheet: &[u32], house: &DefaultSchedule, salt: u64) -> Loaded {
-    let [sheet, mut numbers, mut count] = lent(sheet, house, salt);
+/// Loads a sheet over a default schedule.
+fn load(loader: &dyn Loader, sheet: &[u32], default: &DefaultSchedule, salt: u64) -> Loaded {
+    let [sheet, mut numbers, mut count] = lent(sheet, default, salt);
     let refusal = loader.load_default_schedule(
         sheet.lent(),
         numbers_of(&mut numbers),
@@ -56,19 +57,19 @@ fn load(loader: &dyn Loader, sheet: &[u32], house: &DefaultSchedule, salt: u64) 
 
 /// What an accepted sheet leaves: itself in the first numbers, its length as
 /// count, and all else as it was.
-fn accepted(sheet: &[u32], house: &DefaultSchedule, salt: u64) -> Loaded {
-    let mut house = *house;
-    house.numbers[..sheet.len()].copy_from_slice(sheet);
-    house.count = sheet.len() as u32;
+fn accepted(sheet: &[u32], default: &DefaultSchedule, salt: u64) -> Loaded {
+    let mut default = *default;
+    default.numbers[..sheet.len()].copy_from_slice(sheet);
+    default.count = sheet.len() as u32;
     Loaded {
         refusal: 0,
-        ..rejected(sheet, &house, salt)
+        ..rejected(sheet, &default, salt)
     }
 }
 
 /// What a rejected sheet leaves: everything as it was.
-fn rejected(sheet: &[u32], house: &DefaultSchedule, salt: u64) -> Loaded {
-    let [sheet, numbers, count] = lent(sheet, house, salt).map(|lent| lent.all);
+fn rejected(sheet: &[u32], default: &DefaultSchedule, salt: u64) -> Loaded {
+    let [sheet, numbers, count] = lent(sheet, default, salt).map(|lent| lent.all);
     Loaded {
         refusal: 10,
         numbers,
@@ -77,19 +78,19 @@ fn rejected(sheet: &[u32], house: &DefaultSchedule, salt: u64) -> Loaded {
     }
 }
 
-/// Houses that a sheet is loaded over: the standard one, loaded ones of one
-/// round and of sixteen, and memory that holds no house.
-fn houses() -> Vec<DefaultSchedule> {
-    let mut houses = vec![DefaultSchedule::standard()];
+/// What a sheet is loaded over: the standard schedule, loaded ones of one round
+/// and of sixteen, and memory that holds none.
+fn defaults() -> Vec<DefaultSchedule> {
+    let mut defaults = vec![DefaultSchedule::standard()];
     for (length, factor) in [(2, 700), (32, 150)] {
-        let mut loaded = houses[0];
+        let mut loaded = defaults[0];
         loaded.numbers[..length].fill(factor);
         loaded.count = length as u32;
-        houses.push(loaded);
+        defaults.push(loaded);
     }
     let numbers = std::array::from_fn(|index| 0xEEEE_0000 + index as u32);
-    houses.extend([0, 1, 33, u32::MAX].map(|count| DefaultSchedule { numbers, count }));
-    houses
+    defaults.extend([0, 1, 33, u32::MAX].map(|count| DefaultSchedule { numbers, count }));
+    defaults
 }
 
 /// A sheet of so many pairs in which every number is below the one two places
@@ -125,16 +126,16 @@ fn damaged_sheets() -> Vec<Vec<u32>> {
     sheets
 }
 
-/// The house that stands until a sheet is accepted, over any memory.
+/// What stands until a sheet is accepted, over any memory.
 #[test]
-fn the_standard_house_is_our_six_rounds() {
+fn the_standard_schedule_is_our_six_rounds() {
     let factors = [500, 300, 200, 150, 120, 100].map(|factor| [factor; 2]);
     let mut standard = DefaultSchedule {
         numbers: [0; MOST_FACTORS],
         count: 12,
     };
     standard.numbers[..12].copy_from_slice(factors.as_flattened());
-    for before in houses() {
+    for before in defaults() {
         for loader in LOADERS {
             let [sheet, mut numbers, mut count] = lent(&[], &before, 1);
             loader.standard_schedule(numbers_of(&mut numbers), &mut count.lent_mut()[0]);
@@ -148,15 +149,15 @@ fn the_standard_house_is_our_six_rounds() {
 #[test]
 fn every_damage_of_a_sheet_is_rejected() {
     let sheets = damaged_sheets();
-    for (salt, house) in (0..).zip(houses()) {
+    for (salt, default) in (0..).zip(defaults()) {
         for sheet in &sheets {
             for loader in LOADERS {
-                let loaded = load(loader, sheet, &house, salt);
-                assert_eq!(loaded, rejected(sheet, &house, salt), "{sheet:?}");
+                let loaded = load(loader, sheet, &default, salt);
+                assert_eq!(loaded, rejected(sheet, &default, salt), "{sheet:?}");
             }
         }
     }
-    println!("{} sheets over {} houses", sheets.len(), houses().len());
+    println!("{} sheets over {} defaults", sheets.len(), defaults().len());
     assert!(sheets.len() > 1_500, "{} sheets", sheets.len());
 }
 
@@ -179,11 +180,11 @@ fn good_sheets() -> Vec<Vec<u32>> {
 /// An accepted sheet is in force, and the numbers behind it stay.
 #[test]
 fn every_good_sheet_is_loaded() {
-    for (salt, house) in (0..).zip(houses()) {
+    for (salt, default) in (0..).zip(defaults()) {
         for sheet in good_sheets() {
             for loader in LOADERS {
-                let loaded = load(loader, &sheet, &house, salt);
-                assert_eq!(loaded, accepted(&sheet, &house, salt), "{sheet:?}");
+                let loaded = load(loader, &sheet, &default, salt);
+                assert_eq!(loaded, accepted(&sheet, &default, salt), "{sheet:?}");
             }
         }
     }
@@ -197,7 +198,7 @@ fn random_sheet(random: &mut Random) -> Vec<u32> {
     }
 }
 
-/// The house that a load left.
+/// The default schedule that a load left.
 fn left(loaded: &Loaded) -> DefaultSchedule {
     let numbers = &loaded.numbers[GUARD..loaded.numbers.len() - GUARD];
     DefaultSchedule {
@@ -212,15 +213,15 @@ fn left(loaded: &Loaded) -> DefaultSchedule {
 fn sequences(loader: &dyn Loader, count: usize, sink: &mut dyn FnMut(&[u32], &Loaded)) -> bool {
     let mut random = Random::new(seed(91));
     for salt in 0..count as u64 {
-        let mut house = random.pick(&houses());
+        let mut default = random.pick(&defaults());
         for _ in 0..random.range(1, 12) {
             let sheet = random_sheet(&mut random);
-            let loaded = load(loader, &sheet, &house, salt);
-            if loaded != load(&SecondPlanner, &sheet, &house, salt) {
+            let loaded = load(loader, &sheet, &default, salt);
+            if loaded != load(&SecondPlanner, &sheet, &default, salt) {
                 return false;
             }
             sink(&sheet, &loaded);
-            house = left(&loaded);
+            default = left(&loaded);
         }
     }
     true
@@ -255,9 +256,9 @@ enum Fault {
     None,
     /// A rejected sheet is loaded, as far as there is room.
     RejectedLoaded,
-    /// The standard house stands after a rejection.
+    /// The standard schedule stands after a rejection.
     StandardAfterRejection,
-    /// A rejection leaves no house in force.
+    /// A rejection leaves nothing in force.
     NoneAfterRejection,
     /// A rejection is not told.
     RejectionUntold,
@@ -288,30 +289,30 @@ const FAULTS: [Fault; 9] = [
 struct Faulty(Fault);
 
 impl Faulty {
-    /// The house after a load, and the refusal, in place of the right ones.
+    /// What a load leaves, and the refusal, in place of the right ones.
     fn after(&self, sheet: &[u32], before: DefaultSchedule) -> (DefaultSchedule, u32) {
-        let mut house = before;
-        let refusal = house.load(sheet);
+        let mut default = before;
+        let refusal = default.load(sheet);
         let length = sheet.len().min(MOST_FACTORS);
         match (self.0, refusal) {
             (Fault::RejectedLoaded, 10) => {
-                house.numbers[..length].copy_from_slice(&sheet[..length]);
-                house.count = length as u32;
+                default.numbers[..length].copy_from_slice(&sheet[..length]);
+                default.count = length as u32;
             }
-            (Fault::StandardAfterRejection, 10) => house = DefaultSchedule::standard(),
-            (Fault::NoneAfterRejection, 10) => house.count = 0,
-            (Fault::RejectionUntold, 10) => return (house, 0),
+            (Fault::StandardAfterRejection, 10) => default = DefaultSchedule::standard(),
+            (Fault::NoneAfterRejection, 10) => default.count = 0,
+            (Fault::RejectionUntold, 10) => return (default, 0),
             (Fault::EmptyAccepted, 10) if sheet.is_empty() => {
-                house.count = 0;
-                return (house, 0);
+                default.count = 0;
+                return (default, 0);
             }
-            (Fault::CountKept, 0) => house.count = before.count,
-            (Fault::NumbersKept, 0) => house.numbers = before.numbers,
-            (Fault::CountOfPairs, 0) => house.count /= 2,
-            (Fault::RestCleared, 0) => house.numbers[length..].fill(0),
+            (Fault::CountKept, 0) => default.count = before.count,
+            (Fault::NumbersKept, 0) => default.numbers = before.numbers,
+            (Fault::CountOfPairs, 0) => default.count /= 2,
+            (Fault::RestCleared, 0) => default.numbers[length..].fill(0),
             _ => {}
         }
-        (house, refusal)
+        (default, refusal)
     }
 }
 
@@ -325,8 +326,8 @@ impl Loader for Faulty {
             numbers: *numbers,
             count: *count,
         };
-        let (house, refusal) = self.after(sheet, before);
-        (*numbers, *count) = (house.numbers, house.count);
+        let (default, refusal) = self.after(sheet, before);
+        (*numbers, *count) = (default.numbers, default.count);
         refusal
     }
 }
@@ -350,8 +351,8 @@ fn left_by(planner: &dyn Planner, job: &Job, salt: u64) -> Outcome {
     Outcome { numbers, ..outcome }
 }
 
-/// Job A's floor, on a schedule and a house.
-fn job_a(schedule: &[u32], house: &[u32]) -> Job {
+/// Job A's floor, on a schedule and a default one.
+fn job_a(schedule: &[u32], default: &[u32]) -> Job {
     let plan = Plan {
         vertices: 4,
         tails: vec![0, 0, 1, 2],
@@ -361,7 +362,7 @@ fn job_a(schedule: &[u32], house: &[u32]) -> Job {
     };
     let (anchor, guide) = (vec![6, 5, 3, 0], vec![0, 9, 0, 0]);
     Job {
-        default_schedule: house.to_vec(),
+        default_schedule: default.to_vec(),
         ..Job::new(&plan, 0, 3, anchor, guide, 1, schedule.to_vec(), 100)
     }
 }
@@ -375,38 +376,41 @@ fn is_refused_for_10(planner: &dyn Planner, job: &Job) -> bool {
     refused
 }
 
-/// A call without a schedule is refused for every bad house, those of no
-/// number, of an odd count and of 17 pairs among them. Beside a schedule no
-/// house is looked at.
+/// A call without a schedule is refused for every bad default one, those of no
+/// number, of an odd count and of 17 pairs among them. Beside a schedule none
+/// is looked at.
 #[test]
-fn every_bad_house_is_refused_where_it_is_taken() {
+fn every_bad_default_is_refused_where_it_is_taken() {
     let own = [200, 200, 100, 100];
     for planner in BOTH {
         let beside_none = left_by(planner, &job_a(&own, &[]), 6);
         assert_eq!(beside_none.figures, [0, 0, 0, 6, 4, 2, 4, 10_000]);
-        for house in damaged_sheets() {
-            assert!(is_refused_for_10(planner, &job_a(&[], &house)), "{house:?}");
-            let beside = left_by(planner, &job_a(&own, &house), 6);
-            assert!(beside == beside_none, "{house:?}");
-        }
-        for house in good_sheets() {
+        for default in damaged_sheets() {
             assert!(
-                !is_refused_for_10(planner, &job_a(&[], &house)),
-                "{house:?}"
+                is_refused_for_10(planner, &job_a(&[], &default)),
+                "{default:?}"
             );
-            let beside = left_by(planner, &job_a(&own, &house), 6);
-            assert!(beside == beside_none, "{house:?}");
+            let beside = left_by(planner, &job_a(&own, &default), 6);
+            assert!(beside == beside_none, "{default:?}");
+        }
+        for default in good_sheets() {
+            assert!(
+                !is_refused_for_10(planner, &job_a(&[], &default)),
+                "{default:?}"
+            );
+            let beside = left_by(planner, &job_a(&own, &default), 6);
+            assert!(beside == beside_none, "{default:?}");
         }
     }
 }
 
-/// The schedule of a call's own is refused beside any house.
+/// The schedule of a call's own is refused beside any default one.
 #[test]
-fn a_bad_schedule_is_refused_beside_any_house() {
+fn a_bad_schedule_is_refused_beside_any_default() {
     for planner in BOTH {
         for schedule in damaged_sheets().iter().filter(|sheet| !sheet.is_empty()) {
-            for house in [&STANDARD_SCHEDULE[..], &[], &[100], schedule] {
-                assert!(is_refused_for_10(planner, &job_a(schedule, house)));
+            for default in [&STANDARD_SCHEDULE[..], &[], &[100], schedule] {
+                assert!(is_refused_for_10(planner, &job_a(schedule, default)));
             }
         }
     }
@@ -417,13 +421,13 @@ fn refusal_of(planner: &dyn Planner, job: &Job) -> u64 {
     planners::run(planner, job, 7).figures[1]
 }
 
-/// A house that is taken counts in row 10's place: after start, goal and
-/// tables, before memory and the anchor table.
+/// A default schedule that is taken counts in row 10's place: after start,
+/// goal and tables, before memory and the anchor table.
 #[test]
-fn the_house_has_row_10s_place() {
+fn a_default_has_row_10s_place() {
     for planner in BOTH {
-        for (house, number) in [(&[99, 100][..], 10), (&[], 10), (&[100, 100], 0)] {
-            let mut job = job_a(&[], house);
+        for (default, number) in [(&[99, 100][..], 10), (&[], 10), (&[100, 100], 0)] {
+            let mut job = job_a(&[], default);
             let mut refused = vec![refusal_of(planner, &job)];
             job.anchor[3] = 1;
             refused.push(refusal_of(planner, &job));
@@ -441,21 +445,21 @@ fn the_house_has_row_10s_place() {
     }
 }
 
-/// A call without a schedule and with a house is in all figures and in all
-/// memory the call with that schedule, beside any house.
+/// A call that takes a default schedule is in all figures and in all memory
+/// the call with that schedule, beside any default one.
 #[test]
-fn a_house_is_as_a_schedule() {
+fn a_default_is_as_a_schedule() {
     for planner in BOTH {
         let (mut random, mut rounds) = (Random::new(92), [0; 17]);
         let mut check = |_: &Plan, job: &Job| {
-            let house = jobs::random_default(&mut random);
+            let default = jobs::random_default(&mut random);
             let taken = Job {
                 schedule: vec![],
-                default_schedule: house.clone(),
+                default_schedule: default.clone(),
                 ..job.clone()
             };
             let mut own = Job {
-                schedule: house,
+                schedule: default,
                 ..job.clone()
             };
             let outcome = left_by(planner, &taken, 8);
@@ -472,15 +476,50 @@ fn a_house_is_as_a_schedule() {
     }
 }
 
-/// The largest jobs on a house of sixteen rounds.
+/// The paper's promise of page nine, whichever pairs are in force: the route
+/// costs at most W1·W2 of the last finished round times the cheapest walk.
 #[test]
-fn the_largest_jobs_on_a_house() {
+fn the_bound_holds_on_every_default() {
+    for planner in BOTH {
+        let (mut random, mut routes) = (Random::new(99), [0; 17]);
+        jobs::valid_jobs(100, 4_000, &mut |plan, job| {
+            let taken = Job {
+                schedule: vec![],
+                default_schedule: jobs::random_default(&mut random),
+                ..job.clone()
+            };
+            let least = dijkstra::distances_from(plan, job.start, job.barred)[job.goal as usize];
+            match planners::run(planner, &taken, 11).answer() {
+                Answer::Route {
+                    cost,
+                    rounds,
+                    bound,
+                    ..
+                } => {
+                    let last = &taken.default_schedule[2 * rounds as usize - 2..];
+                    assert_eq!(bound, last[0] * last[1]);
+                    let least = least.expect("a route is given only where there is one");
+                    assert!(10_000 * u128::from(cost) <= u128::from(bound) * u128::from(least));
+                    routes[rounds as usize] += 1;
+                }
+                Answer::NoRoute { .. } => assert_eq!(least, None),
+                answer => assert_eq!(answer, Answer::Unfinished { turns: job.budget }),
+            }
+        });
+        println!("routes by finished rounds: {routes:?}");
+        assert!(routes[1..].iter().all(|&count| count >= 100), "{routes:?}");
+    }
+}
+
+/// The largest jobs on a default schedule of sixteen rounds.
+#[test]
+fn the_largest_jobs_on_a_default() {
     let (mut comparison, mut all) = (Comparison::new(&Library, &SecondPlanner), 0);
     jobs::large_jobs(seed(95), &mut |_, job| {
-        let (schedule, house) = (vec![], job.schedule.clone());
+        let (schedule, default) = (vec![], job.schedule.clone());
         let taken = Job {
             schedule,
-            default_schedule: house,
+            default_schedule: default,
             ..job.clone()
         };
         if taken.default_schedule.is_empty() {
@@ -494,10 +533,10 @@ fn the_largest_jobs_on_a_house() {
     assert!(comparison.jobs >= 15 && all >= 3, "{all} of sixteen rounds");
 }
 
-/// On the standard house a call without a schedule is what it was: the call on
+/// On the standard schedule a call without its own is what it was: the call on
 /// our six rounds, and what the bench program prints.
 #[test]
-fn the_standard_house_is_what_an_empty_schedule_meant() {
+fn the_standard_schedule_is_what_an_empty_one_meant() {
     for planner in BOTH {
         let mut count = 0;
         jobs::valid_jobs(96, 2_000, &mut |_, job| {
@@ -518,23 +557,23 @@ fn the_standard_house_is_what_an_empty_schedule_meant() {
 /// A site's day: sheets are loaded between calls, and each call without a
 /// schedule takes the last accepted one; none is kept from call to call.
 #[test]
-fn calls_take_the_house_in_force() {
+fn calls_take_the_default_in_force() {
     for (planner, loader) in BOTH.into_iter().zip(LOADERS) {
         let mut random = Random::new(97);
-        let mut house = DefaultSchedule::standard();
+        let mut default = DefaultSchedule::standard();
         let mut last = STANDARD_SCHEDULE.to_vec();
         let (mut jobs, mut changes, mut rejections) = (0, 0, 0);
         jobs::valid_jobs(98, 1_000, &mut |_, job| {
             let sheet = random_sheet(&mut random);
-            let loaded = load(loader, &sheet, &house, jobs);
-            house = left(&loaded);
+            let loaded = load(loader, &sheet, &default, jobs);
+            default = left(&loaded);
             match loaded.refusal {
                 0 => last = sheet,
                 _ => rejections += 1,
             }
             let taken = Job {
                 schedule: vec![],
-                default_schedule: house.in_force().to_vec(),
+                default_schedule: default.in_force().to_vec(),
                 ..job.clone()
             };
             let own = Job {

@@ -199,7 +199,7 @@ fn jobs_with_a_sheet() {
         };
         sheet.resize(sheet.len().next_multiple_of(2).max(2), 99);
         let job = with_pairs(&text, "house", &sheet);
-        let (_, refusal) = run::load_sheet(&Library, &job);
+        let (_, refusal) = run::loaded_default(&Library, &job);
         let printed = run::run(&Library, &job);
         assert_eq!(printed, run::run(&SecondPlanner, &job), "{job}");
         let other = match own || refusal > 0 {

@@ -675,7 +675,7 @@ fn on_a_bad_sheet() -> String {
 fn a_rejected_sheet_leaves_our_six_rounds() {
     let words = "line 84: W1 rises from 160 to 170 (refusal 10)\n\
                  line 84: W2 99 is not from 100 to 10000 (refusal 10)\n\
-                 the site's sheet is rejected (refusal 10): the house schedule stays what it was, \
+                 the sheet for the house schedule is rejected (refusal 10): it stays what it was, \
                  our six rounds\n";
     for command in ["run", "print"] {
         let printed = job(&[command], on_a_bad_sheet());
@@ -695,7 +695,7 @@ fn a_rejected_sheet_leaves_our_six_rounds() {
 #[test]
 fn a_rejected_sheet_beside_other_faults() {
     let text = on_a_bad_sheet().replace("goal 11", "goal 24");
-    let rejected = "the site's sheet is rejected (refusal 10): ";
+    let rejected = "the sheet for the house schedule is rejected (refusal 10): ";
     let goal = "line 77: goal 24 is not a place; places are 0 to 23 (refusal 8)\n";
     let run = job(&["run"], &text);
     assert_eq!((run.status, run.out.as_str()), (3, "refused 8 at 0\n"));

@@ -11,7 +11,7 @@ use secondcoop_tests::lead;
 use secondcoop_tests::planners::{self, Library, Loader, Planner, SecondPlanner};
 use secondcoop_tests::reference::LAST_REFUSAL;
 use secondcoop_tests::refusals::{
-    beyond_bench, position_words, refusal_words, remarks, sheet_remarks, Remark, Taker,
+    beyond_bench, default_remarks, position_words, refusal_words, remarks, Remark, Taker,
 };
 use secondcoop_tests::run;
 use secondcoop_tests::text::{pairs_text, JobLines, Line, TextJob};
@@ -45,8 +45,8 @@ code that is tested and not proved.
 The bench program takes up to 256 places, 2048 lanes and 32768 bytes; run, check, print and lead
 take what the planner call takes, up to 4096 places and 32768 lanes.
 Exit status: 0 a route, or done; 1 no route; 2 unfinished; 3 refused, with the reason in plain
-words, and where check finds the sheet rejected; 4 nothing was done: wrong use, a file or a line that cannot be read or said in bytes, or
-output that cannot be written.
+words, and check on a sheet that is rejected; 4 nothing was done: wrong use, a file or a line that
+cannot be read or said in bytes, or output that cannot be written.
 ";
 
 /// Remarks of one refusal that are said; more of them are counted.
@@ -113,16 +113,18 @@ impl Read {
         text
     }
 
-    /// Why the site's sheet is rejected, and what then is in force; nothing
-    /// where it is loaded or there is none.
+    /// Why the sheet for the default schedule is rejected, and what then is in
+    /// force; nothing where it is loaded or there is none.
     fn rejection(&self, loader: &dyn Loader) -> String {
-        let (_, refusal) = run::load_sheet(loader, &self.job);
+        let (_, refusal) = run::loaded_default(loader, &self.job);
         if refusal == 0 {
             return String::new();
         }
-        let words = "the house schedule stays what it was, our six rounds";
-        let lines = listed(&sheet_remarks(&self.job));
-        format!("{lines}the site's sheet is rejected (refusal {refusal}): {words}\n")
+        let lines = listed(&default_remarks(&self.job));
+        format!(
+            "{lines}the sheet for the house schedule is rejected (refusal {refusal}): it stays \
+             what it was, our six rounds\n"
+        )
     }
 
     /// The faults, or that there are none and what the job has.
@@ -153,12 +155,12 @@ impl Read {
 
     /// The rounds of the job, and whose they are.
     fn rounds(&self, lines: &JobLines) -> String {
-        let (default_schedule, refusal) = run::load_sheet(&Library, &self.job);
-        let house = count(default_schedule.in_force().len() / 2, "round");
+        let (default_schedule, refusal) = run::loaded_default(&Library, &self.job);
+        let rounds = count(default_schedule.in_force().len() / 2, "round");
         let sheet = !lines.default_schedule.is_empty();
         match lines.rounds.len() {
-            0 if sheet && refusal == 0 => format!("the site's house schedule of {house}"),
-            0 => format!("the house schedule of {house}"),
+            0 if sheet && refusal == 0 => format!("the site's house schedule of {rounds}"),
+            0 => format!("the house schedule of {rounds}"),
             own if sheet => format!(
                 "{} of its own, beside which no house schedule is looked at",
                 count(own, "round")
@@ -234,14 +236,14 @@ impl Read {
         }
     }
 
-    /// The job's bytes in some form. They cannot say a sheet: what to do
-    /// instead is said.
+    /// The job's bytes in some form. They cannot say a default schedule: what
+    /// to do instead is said.
     fn bytes(&self, form: impl Fn(Vec<u8>) -> Vec<u8>) -> Done {
-        let Some(line) = self.job.first_of_sheet() else {
+        let Some(line) = self.job.default_line() else {
             return self.form(form(self.job.bytes()));
         };
         let own = self.job.lines().is_ok_and(|lines| !lines.rounds.is_empty());
-        let instead = match own || !sheet_remarks(&self.job).is_empty() {
+        let instead = match own || !default_remarks(&self.job).is_empty() {
             true => "leave the 'house' lines out, which the job does not take",
             false => "give its pairs as 'round' lines",
         };
