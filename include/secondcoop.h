@@ -35,7 +35,7 @@
  *   read they may share. Nothing is allocated, and every call returns.
  * - The libraries are for x86-64 with the System V calling convention (ELF
  *   objects, as on Linux; position-independent, without unwind tables) and
- *   need `memset` from outside, nothing else.
+ *   need `memcpy` and `memset` from outside, nothing else.
  * - A call needs SECONDCOOP_STACK bytes of stack at most, secondcoop_load_house
  *   SECONDCOOP_HOUSE_STACK, secondcoop_plan SECONDCOOP_PLAN_STACK,
  *   secondcoop_bench_text SECONDCOOP_TEXT_STACK.
@@ -109,7 +109,7 @@ extern "C" {
  * refusal 10 then covers it. What was the house schedule is the standard
  * house now: SECONDCOOP_HOUSE_ROUNDS is SECONDCOOP_STANDARD_ROUNDS, a call
  * that is handed the standard house is what it was, and bench jobs take it
- * always.
+ * always. The libraries need `memcpy` too.
  */
 #define SECONDCOOP_VERSION 5
 
