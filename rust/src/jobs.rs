@@ -987,26 +987,29 @@ fn handed_jobs(
         let (plan, mut job) = with_fewer_opinions(&mut random, job);
         hand(&mut job);
         sink(&plan, &job);
-        let mut budgets = Vec::new();
-        for end in ends_of_rounds(&job) {
-            budgets.extend([end.saturating_sub(1), end, end + 1]);
-        }
-        budgets.extend([0, 1]);
-        if let Some(&last) = budgets.iter().max() {
-            budgets.push(random.range32(0, last));
-        }
-        budgets.sort_unstable();
-        budgets.dedup();
-        if budgets.len() > 6 {
-            for _ in 0..budgets.len() - 6 {
-                budgets.remove(random.index(budgets.len()));
-            }
-        }
-        for budget in budgets {
+        for budget in random_budgets(&mut random, &job) {
             job.budget = budget;
             sink(&plan, &job);
         }
     }
+}
+
+/// Up to six budgets, most of them at, before and after the ends of rounds.
+fn random_budgets(random: &mut Random, job: &Job) -> Vec<u32> {
+    let mut budgets = Vec::new();
+    for end in ends_of_rounds(job) {
+        budgets.extend([end.saturating_sub(1), end, end + 1]);
+    }
+    budgets.extend([0, 1]);
+    if let Some(&last) = budgets.iter().max() {
+        budgets.push(random.range32(0, last));
+    }
+    budgets.sort_unstable();
+    budgets.dedup();
+    while budgets.len() > 6 {
+        budgets.remove(random.index(budgets.len()));
+    }
+    budgets
 }
 
 /// The least cost of an edge on a long path; 269 of them pass 32 bits.

@@ -3,7 +3,7 @@
 //! planner print the text beside them.
 
 use std::fs;
-use std::path::PathBuf;
+use std::path::{Path, PathBuf};
 use std::process::Command;
 
 use secondcoop_tests::lead;
@@ -209,17 +209,35 @@ fn the_bench_programs_job_is_job_a() {
     assert_eq!(fs::read(own).expect("a job"), read("job-a", "job"));
 }
 
+/// The tool on a file: whether all is well, and its output.
+fn job(command: &str, path: &Path) -> (bool, Vec<u8>) {
+    let mut tool = Command::new(env!("CARGO_BIN_EXE_job"));
+    let output = tool.arg(command).arg(path).output().expect("the tool runs");
+    (output.status.success(), output.stdout)
+}
+
+/// A job without bytes is planned and printed, and its text form gives itself.
+#[test]
+fn the_tool_on_jobs_without_bytes() {
+    for name in names_without_bytes() {
+        let path = examples().join(format!("{name}.txt"));
+        for command in ["run", "print"] {
+            assert_eq!(job(command, &path), (true, read(&name, "out")));
+        }
+        let (good, text) = job("text", &path);
+        let other = Path::new(env!("CARGO_TARGET_TMPDIR")).join(format!("{name}.text"));
+        fs::write(&other, &text).expect("a file is written");
+        assert_eq!(job("text", &other), (good, text));
+        assert!(job("check", &path).1.starts_with(b"nothing is wrong: "));
+        for command in ["bytes", "hex"] {
+            assert_eq!(job(command, &path), (false, vec![]));
+        }
+    }
+}
+
 /// The tool on the files: bytes, hexadecimal pairs, text, what is wrong.
 #[test]
 fn the_tool_turns_each_form_into_the_others() {
-    let job = |command: &str, path: &PathBuf| {
-        let output = Command::new(env!("CARGO_BIN_EXE_job"))
-            .arg(command)
-            .arg(path)
-            .output()
-            .expect("the tool runs");
-        (output.status.success(), output.stdout)
-    };
     let directory = PathBuf::from(env!("CARGO_TARGET_TMPDIR"));
     for name in names() {
         let bytes = read(&name, "job");
@@ -242,21 +260,8 @@ fn the_tool_turns_each_form_into_the_others() {
             }
         }
     }
-    for name in names_without_bytes() {
-        let path = examples().join(format!("{name}.txt"));
-        for command in ["run", "print"] {
-            assert_eq!(job(command, &path), (true, read(&name, "out")));
-        }
-        let (good, text) = job("text", &path);
-        let other = directory.join(format!("{name}.text"));
-        fs::write(&other, &text).expect("a file is written");
-        assert_eq!(job("text", &other), (good, text));
-        for command in ["bytes", "hex"] {
-            assert_eq!(job(command, &path), (false, vec![]));
-        }
-    }
-    let (good, words) = job("describe", &PathBuf::from("13"));
+    let (good, words) = job("describe", Path::new("13"));
     assert!(good && String::from_utf8_lossy(&words).starts_with("refusal 13: the anchor table"));
-    assert!(!job("describe", &PathBuf::from("0")).0);
+    assert!(!job("describe", Path::new("0")).0);
     assert!(!job("bytes", &examples().join("plan-a.txt")).0);
 }

@@ -197,6 +197,12 @@ fn a_sheet_that_is_rejected_is_told() {
         "line 12: W2 rises from 200 to 201 (refusal 10); line 13: W1 rises from 200 to 201 \
          (refusal 10)"
     );
+}
+
+/// There are remarks on a sheet exactly where the second implementation
+/// rejects it.
+#[test]
+fn remarks_on_seeded_sheets() {
     let mut random = Random::new(94);
     let mut refusals = [0; 2];
     for _ in 0..3_000 {
@@ -209,7 +215,8 @@ fn a_sheet_that_is_rejected_is_told() {
             continue;
         }
         let refusal = DefaultSchedule::standard().load(&sheet);
-        assert_eq!(words(pairs).is_empty(), refusal == 0, "{pairs:?}");
+        let job = TextJob::parse(&on_a_sheet(pairs)).unwrap();
+        assert_eq!(default_remarks(&job).is_empty(), refusal == 0, "{job}");
         refusals[usize::from(refusal > 0)] += 1;
     }
     assert!(refusals.iter().all(|&count| count > 500), "{refusals:?}");

@@ -451,11 +451,8 @@ fn start_is_goal() {
             assert_eq!(answer, expected);
             assert_eq!(lent.route, [1, NONE, NONE, NONE, 77, 77]);
             assert_eq!(lent.log, [78; 6]);
-            assert_eq!(
-                lent.work[17..],
-                [NONE, 0, NONE, 4, NONE, 0, NONE, 0, 79, 79]
-            );
-            let u = UNREACHED;
+            let (n, u) = (NONE, UNREACHED);
+            assert_eq!(lent.work[17..], [n, 0, n, 4, n, 0, n, 0, 79, 79]);
             assert_eq!(lent.wide, [u, u, 0, u, u, u, u, u, 80, 80]);
         }
     });
