@@ -36,9 +36,9 @@
  * - The libraries are for x86-64 with the System V calling convention (ELF
  *   objects, as on Linux; position-independent, without unwind tables) and
  *   need `memcpy` and `memset` from outside, nothing else.
- * - A call needs SECONDCOOP_STACK bytes of stack at most, secondcoop_load_house
- *   SECONDCOOP_HOUSE_STACK, secondcoop_plan SECONDCOOP_PLAN_STACK,
- *   secondcoop_bench_text SECONDCOOP_TEXT_STACK.
+ * - A call needs SECONDCOOP_STACK bytes of stack at most,
+ *   secondcoop_load_house SECONDCOOP_HOUSE_STACK, secondcoop_plan
+ *   SECONDCOOP_PLAN_STACK, secondcoop_bench_text SECONDCOOP_TEXT_STACK.
  * - `rt staticlib NAME` makes target/staticlib/libNAME.a: ffi_numbers has the
  *   functions on numbers, ffi_plans those on plans, ffi_planner those on
  *   houses, planner calls and bench jobs. A program links those that it calls.

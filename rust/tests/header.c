@@ -262,6 +262,7 @@ _Static_assert(SECONDCOOP_WORK_WORDS(1, 0) == 4, "work words");
 _Static_assert(SECONDCOOP_WORK_WORDS(4096, 32768) == 110593, "work words");
 _Static_assert(2 * SECONDCOOP_WIDE_NUMBERS(2 + 2) == 16, "wide numbers");
 _Static_assert(SECONDCOOP_WIDE_NUMBERS(4096) == 8192, "wide numbers");
+_Static_assert(SECONDCOOP_HOUSE_NUMBERS == 2 * SECONDCOOP_MAX_ROUNDS, "house numbers");
 _Static_assert(SECONDCOOP_UNREACHED == UINT64_MAX, "not reached");
 _Static_assert(SECONDCOOP_NO_OPINION == UINT32_MAX, "no opinion");
 _Static_assert(SECONDCOOP_CLASS(0) == 1 && SECONDCOOP_CLASS(7 - 1) == 64, "classes");

@@ -35,9 +35,9 @@ In a text the word - in the line of a guide sheet stands where that guide has no
 place, which is the number 4294967295 there; it never expands such a place, and a turn for which
 it has no place goes to the anchor. The anchor table has a number for every place.
 The lines 'house W1 W2' of a text are the site's sheet for its own house schedule, by which a job
-without 'round' lines is planned. The sheet is loaded first; where it is rejected (refusal 10), that
-is said, and the house schedule stays what it was: our six rounds, as where no sheet stands. A job's
-bytes cannot say a sheet, and the bench program takes our six rounds.
+without 'round' lines is planned. The sheet is loaded first; where it is rejected (refusal 10),
+that is said, and the house schedule stays what it was: our six rounds, as where no sheet stands.
+A job's bytes cannot say a sheet, and the bench program takes our six rounds.
 The lead: a guide expands a place only if its key, cost + w1 * number, is at most w1 * w2 times the
 cost of the cheapest chain, and the anchor only if it is at most w1 times that. Turns and rounds
 are the proved library's; the places' costs in each turn and the cheapest chain are reckoned by
