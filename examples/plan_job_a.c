@@ -21,6 +21,7 @@ int main(void)
     static const uint32_t anchor[PLACES] = {6, 5, 3, 0};
     static const uint32_t guide[PLACES] = {0, 9, 0, 0};
     static const uint32_t schedule[2 * ROUNDS] = {200, 200, 100, 100};
+    static const uint32_t house[SECONDCOOP_HOUSE_NUMBERS];
     uint32_t route[SECONDCOOP_ROUTE_WORDS(PLACES)];
     uint32_t log[SECONDCOOP_TURNS(PLACES, ROUNDS)];
     uint32_t work[SECONDCOOP_WORK_WORDS(PLACES, LANES)];
@@ -28,9 +29,10 @@ int main(void)
     uint64_t figures[SECONDCOOP_PLAN_FIGURES];
 
     /* Job A bars no class; SECONDCOOP_CLASS(1) would keep a tug off lanes of
-     * class 1. Its allowance is 100 turns; SECONDCOOP_TURNS, 16, would do. */
+     * class 1. It has a schedule, so that no house is looked at. Its allowance
+     * is 100 turns; SECONDCOOP_TURNS, 16, would do. */
     secondcoop_plan(plan, sizeof plan, 0, 3, NO_BAR, anchor, PLACES, guide, PLACES, 1,
-                    schedule, 2 * ROUNDS, 100,
+                    schedule, 2 * ROUNDS, house, 0, 100,
                     route, PLACES, log, sizeof log / sizeof log[0],
                     work, sizeof work / sizeof work[0],
                     wide, sizeof wide / sizeof wide[0], figures);

@@ -14,6 +14,11 @@
  * no chain of lanes uses them. What a class stands for, as a ramp that some
  * tugs keep off, is the caller's.
  *
+ * A planner call has a schedule of rounds, or takes the site's house schedule:
+ * our six rounds, the standard house, until the site loads its own. The house
+ * is the caller's memory too, SECONDCOOP_HOUSE_NUMBERS numbers and a count,
+ * and the first `count` numbers are in force.
+ *
  * For every function:
  * - A list is a pointer and the count of its elements. It is aligned as its
  *   elements are: bytes anywhere, 32-bit words at multiples of 4, 64-bit
@@ -23,18 +28,20 @@
  *   Memory beyond what is written keeps its contents.
  * - `figures` points to SECONDCOOP_FIGURES numbers, for secondcoop_plan to
  *   SECONDCOOP_PLAN_FIGURES; the call writes them all, unused ones as 0. A
- *   refusal in figures leaves all other memory untouched.
+ *   refusal in figures leaves all other memory untouched. `numbers` points to
+ *   SECONDCOOP_HOUSE_NUMBERS numbers, `count` to one.
  * - Nothing is kept from call to call and there is no global state: several
  *   threads may call at once with different memory to write; what is only
  *   read they may share. Nothing is allocated, and every call returns.
  * - The libraries are for x86-64 with the System V calling convention (ELF
  *   objects, as on Linux; position-independent, without unwind tables) and
- *   need `memset` from outside, nothing else.
- * - A call needs SECONDCOOP_STACK bytes of stack at most, secondcoop_plan
+ *   need `memcpy` and `memset` from outside, nothing else.
+ * - A call needs SECONDCOOP_STACK bytes of stack at most,
+ *   secondcoop_load_house SECONDCOOP_HOUSE_STACK, secondcoop_plan
  *   SECONDCOOP_PLAN_STACK, secondcoop_bench_text SECONDCOOP_TEXT_STACK.
  * - `rt staticlib NAME` makes target/staticlib/libNAME.a: ffi_numbers has the
  *   functions on numbers, ffi_plans those on plans, ffi_planner those on
- *   planner calls and bench jobs. A program links those that it calls.
+ *   houses, planner calls and bench jobs. A program links those that it calls.
  *
  * Refusals. They are checked downwards and the first fault counts; plan
  * numbers are taken in byte order, each through all its rows before the next
@@ -55,8 +62,9 @@
  *                         above 255
  *   call               9  over 8 guides, or tables not V         0
  *                         numbers each
- *   call              10  schedule over 16 rounds, odd, out of   0
- *                         range or rising
+ *   call              10  schedule, or if it is empty the house, 0
+ *                         over 16 rounds, odd, out of range or
+ *                         rising, or both empty
  *   call              11  route under V words, work under        0
  *                         3V+1+3M, or wide under 2V numbers
  *   anchor table      12  not 0 at the goal                      0
@@ -95,8 +103,15 @@ extern "C" {
  * Version 4: 4294967295 on a guide sheet, SECONDCOOP_NO_OPINION, was a number
  * like the others; now the guide has no opinion on that place. In the anchor
  * table it is a number as before, and no declaration changes.
+ *
+ * Version 5: a site may load a house schedule of its own. A planner call is
+ * handed the house after its schedule and takes it where that is empty;
+ * refusal 10 then covers it. What was the house schedule is the standard
+ * house now: SECONDCOOP_HOUSE_ROUNDS is SECONDCOOP_STANDARD_ROUNDS, a call
+ * that is handed the standard house is what it was, and bench jobs take it
+ * always. The libraries need `memcpy` too.
  */
-#define SECONDCOOP_VERSION 4
+#define SECONDCOOP_VERSION 5
 
 /* Limits of a plan and of a call. */
 #define SECONDCOOP_MAX_PLACES 4096
@@ -116,8 +131,11 @@ extern "C" {
  */
 #define SECONDCOOP_CLASS(k) (UINT32_C(1) << (k))
 
-/* The rounds of the house schedule, which an empty schedule means. */
-#define SECONDCOOP_HOUSE_ROUNDS 6
+/* The numbers of a house, in force or not: W1 and W2 of the most rounds. */
+#define SECONDCOOP_HOUSE_NUMBERS 32
+
+/* The rounds of the standard house; another house has count / 2. */
+#define SECONDCOOP_STANDARD_ROUNDS 6
 
 /* Sizes of lent memory, in elements: figures; plan bytes that are always
  * enough to write so many lanes, and any plan; route, work and wide memory of
@@ -135,16 +153,19 @@ extern "C" {
 /*
  * The turns that always suffice for so many rounds, 2 * V for each: an
  * allowance of SECONDCOOP_TURNS(V, 1) never ends a call as unfinished, and
- * one for all rounds of the schedule (SECONDCOOP_HOUSE_ROUNDS if it is empty)
- * finishes them all, unless there is no route. A log of as many words shows
- * every turn of such a call. At most 131072.
+ * one for all rounds of the schedule, or of the house if it is empty
+ * (SECONDCOOP_STANDARD_ROUNDS on the standard house), finishes them all,
+ * unless there is no route. A log of as many words shows every turn of such a
+ * call. At most 131072.
  */
 #define SECONDCOOP_TURNS(places, rounds) \
     (UINT32_C(2) * (uint32_t)(places) * (uint32_t)(rounds))
 
-/* Stack of a call, in bytes: of each function on numbers or plans, of
- * secondcoop_plan, of secondcoop_bench_text. Measured, with room to spare. */
+/* Stack of a call, in bytes: of each function but those that follow, of
+ * secondcoop_load_house, of secondcoop_plan, of secondcoop_bench_text.
+ * Measured, with room to spare. */
 #define SECONDCOOP_STACK 1024
+#define SECONDCOOP_HOUSE_STACK 8192
 #define SECONDCOOP_PLAN_STACK 16384
 #define SECONDCOOP_TEXT_STACK 94208
 
@@ -246,6 +267,24 @@ void secondcoop_write_plan(uint32_t vertices,
                            uint8_t *out, size_t out_length,
                            uint64_t *figures);
 
+/*
+ * The standard house, which stands until a sheet is accepted: W1 = W2 = 500,
+ * 300, 200, 150, 120, 100. Writes these twelve numbers, 0 in the other twenty,
+ * and 12 as count.
+ */
+void secondcoop_standard_house(uint32_t *numbers, uint32_t *count);
+
+/*
+ * Loads a sheet, 1 to 16 pairs of W1 and W2, as the site's house.
+ * Gives SECONDCOOP_NOT_REFUSED: the first numbers are the sheet, those behind
+ * it keep their contents, and the count is the sheet's length. Or gives
+ * SECONDCOOP_BAD_SCHEDULE if the sheet is empty, over 16 pairs, odd, out of
+ * range or rising: numbers and count, whatever they hold, stay as they are,
+ * and so the previous house stays in force.
+ */
+uint32_t secondcoop_load_house(const uint32_t *sheet, size_t sheet_length,
+                               uint32_t *numbers, uint32_t *count);
+
 /* How a planner call ends. */
 enum {
     SECONDCOOP_ROUTE = 0,
@@ -287,8 +326,10 @@ enum {
  *              Distances too long for it are cut at that number less 1.
  * schedule     W1 and W2 of each round in hundredths, 100 to 10000, neither
  *              rising from a round to the next; up to 16 rounds, 32 numbers.
- *              An empty schedule means the house schedule, W1 = W2 = 500,
- *              300, 200, 150, 120, 100.
+ *              An empty schedule means the house.
+ * house        The site's house, its first `count` numbers. It is looked at
+ *              only if the schedule is empty: then it is the call's schedule
+ *              to the end, and tested as one, and an empty one is refused.
  * budget       The allowance: the turns permitted over all rounds. 2 * V are
  *              enough for the first round, 2 * V times the rounds for all
  *              (SECONDCOOP_TURNS).
@@ -312,7 +353,7 @@ enum {
  * is the place's in that turn). This is Theorem 12, and for the anchor
  * Theorem 9, of Aine, Swaminathan, Narayanan, Hwang and Likhachev,
  * Multi-Heuristic A* (the full report on what they first published in 2014),
- * over all rounds. On the house schedule no guide expands a place dearer than
+ * over all rounds. On the standard house no guide expands a place dearer than
  * 25, 9, 4, 2.25, 1.44 and 1 times the cheapest chain, round by round.
  *
  * Lent memory, in 32-bit words but for wide:
@@ -340,6 +381,7 @@ void secondcoop_plan(const uint8_t *bytes, size_t bytes_length,
                      const uint32_t *guides, size_t guides_length,
                      uint32_t guide_count,
                      const uint32_t *schedule, size_t schedule_length,
+                     const uint32_t *house, size_t house_length,
                      uint32_t budget,
                      uint32_t *route, size_t route_length,
                      uint32_t *log, size_t log_length,
@@ -351,7 +393,8 @@ void secondcoop_plan(const uint8_t *bytes, size_t bytes_length,
  * What the bench program prints for a job's bytes: plan length, the plan,
  * start, goal, barred number, allowance, count of rounds and their factors,
  * guide count, anchor table, guide sheets, each number in up to five groups
- * and 32 bits. Each line ends in a newline:
+ * and 32 bits. A job without rounds takes the standard house. Each line ends
+ * in a newline:
  *
  *   turn K table T place S       for each turn, then one of:
  *   route S S ..                 and in a second line

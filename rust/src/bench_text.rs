@@ -1,7 +1,7 @@
 //! The bench program's text, written from the papers alone: a job is read
 //! from its bytes, planned, and its turns and ending are printed.
 
-use crate::planner::{self, Answer, Event, Fault, Memory, Request};
+use crate::planner::{self, Answer, Event, Fault, Memory, Request, STANDARD_SCHEDULE};
 use crate::reference;
 
 /// The most bytes of a bench job.
@@ -126,6 +126,7 @@ pub fn bench_text_by(bytes: &[u8], fault: Option<Fault>) -> String {
         guides: &guides,
         guide_count: job.guide_count,
         schedule: &job.schedule,
+        default_schedule: &STANDARD_SCHEDULE,
         budget: job.budget,
     };
     let mut route = vec![0; vertices];

@@ -4,7 +4,9 @@
 use crate::dijkstra;
 use crate::generate::Plan;
 use crate::jobs::Job;
-use crate::planner::{Answer, Event, MOST_BARRED, MOST_OPINION, NO_OPINION};
+use crate::planner::{
+    is_bad_schedule, Answer, Event, MOST_BARRED, MOST_OPINION, NO_OPINION, STANDARD_SCHEDULE,
+};
 
 /// How often each event was met; see [`Events::names`].
 #[derive(Clone, Debug, Default, PartialEq, Eq)]
@@ -76,8 +78,24 @@ pub struct Events {
     pub eight_guides: u64,
     /// The schedule has sixteen rounds.
     pub sixteen_rounds: u64,
-    /// The schedule is empty.
-    pub house_schedule: u64,
+    /// The schedule is empty, and the default one, the paper's house schedule,
+    /// is in force.
+    pub default_schedule: u64,
+    /// And it is the standard one.
+    pub standard_default: u64,
+    /// And it has one round; sixteen.
+    pub default_of_one_round: u64,
+    pub default_of_sixteen: u64,
+    /// And the search would have ended otherwise on the standard one.
+    pub default_tells: u64,
+    /// And all its rounds finished, six or not.
+    pub default_finished: u64,
+    /// And one of its rounds was cut.
+    pub default_cut: u64,
+    /// The default schedule stands beside the job's own, which is another.
+    pub default_beside: u64,
+    /// And row 10 would refuse it.
+    pub bad_default_beside: u64,
     /// The plan has edges of all eight classes.
     pub eight_classes: u64,
     /// The call bars all classes.
@@ -212,7 +230,13 @@ impl Seen {
 impl Events {
     /// All counts with their names.
     pub fn names(&self) -> Vec<(&'static str, u64)> {
-        [self.of_searches(), self.of_jobs(), self.of_opinions()].concat()
+        let lists = [
+            self.of_searches(),
+            self.of_jobs(),
+            self.of_defaults(),
+            self.of_opinions(),
+        ];
+        lists.concat()
     }
 
     fn of_searches(&self) -> Vec<(&'static str, u64)> {
@@ -258,9 +282,22 @@ impl Events {
             ("no guides", self.no_guides),
             ("eight guides", self.eight_guides),
             ("sixteen rounds", self.sixteen_rounds),
-            ("house schedule", self.house_schedule),
             ("edges of eight classes", self.eight_classes),
             ("all classes barred", self.all_barred),
+        ]
+    }
+
+    fn of_defaults(&self) -> Vec<(&'static str, u64)> {
+        vec![
+            ("default schedule", self.default_schedule),
+            ("and it is the standard one", self.standard_default),
+            ("default schedule of one round", self.default_of_one_round),
+            ("default schedule of sixteen", self.default_of_sixteen),
+            ("default schedule tells", self.default_tells),
+            ("default schedule finished", self.default_finished),
+            ("default schedule cut", self.default_cut),
+            ("default schedule beside another", self.default_beside),
+            ("bad default schedule beside", self.bad_default_beside),
         ]
     }
 
@@ -314,6 +351,7 @@ impl Events {
         if !matches!(answer, Answer::Refused { .. }) {
             let plan = Plan::of_bytes(&job.bytes);
             self.count_shape(job, &plan);
+            self.count_default(job, answer);
             self.count_sheets(job);
             self.count_barred(job, &plan, answer);
         }
@@ -329,6 +367,33 @@ impl Events {
         self.no_opinion_left += u64::from(seen.none_left);
         self.no_opinion_route += u64::from(seen.within && route);
         self.greatest_by_anchor += u64::from(seen.by_anchor);
+    }
+
+    /// Counts which default schedule a job is handed, and what it changes.
+    fn count_default(&mut self, job: &Job, answer: Answer) {
+        let default = &job.default_schedule[..];
+        if !job.schedule.is_empty() {
+            self.default_beside += u64::from(job.schedule != default);
+            self.bad_default_beside += u64::from(is_bad_schedule(default));
+            return;
+        }
+        let standard = Job {
+            default_schedule: STANDARD_SCHEDULE.to_vec(),
+            ..job.clone()
+        };
+        let finished = match answer {
+            Answer::Route { rounds, .. } => Some(rounds as usize),
+            Answer::Unfinished { .. } => Some(0),
+            _ => None,
+        };
+        let cut = finished.filter(|&finished| finished < default.len() / 2);
+        self.default_schedule += 1;
+        self.standard_default += u64::from(default == STANDARD_SCHEDULE);
+        self.default_of_one_round += u64::from(default.len() == 2);
+        self.default_of_sixteen += u64::from(default.len() == 32);
+        self.default_tells += u64::from(standard.events().0 != answer);
+        self.default_finished += u64::from(finished == Some(default.len() / 2));
+        self.default_cut += u64::from(cut.is_some());
     }
 
     /// Counts where a job's guides have opinions.
@@ -413,10 +478,7 @@ impl Events {
             ..
         } = answer
         {
-            let asked = match job.schedule.len() {
-                0 => 6,
-                length => length / 2,
-            };
+            let asked = job.factors().len() / 2;
             self.all_rounds += u64::from(rounds as usize == asked);
             self.free_walk += u64::from(cost == 0 && length > 1);
             self.wide_route += u64::from(is_wide(cost));
@@ -462,7 +524,6 @@ impl Events {
         self.no_guides += u64::from(job.guide_count == 0);
         self.eight_guides += u64::from(job.guide_count == 8);
         self.sixteen_rounds += u64::from(job.schedule.len() == 32);
-        self.house_schedule += u64::from(job.schedule.is_empty());
         self.eight_classes += u64::from(eight_classes);
     }
 }

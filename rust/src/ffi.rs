@@ -2,8 +2,10 @@
 //!
 //! Each call on plan bytes leaves four figures: refusal number, position,
 //! first value and second value; unused figures are 0. A planner call leaves
-//! eight.
+//! eight. A default schedule, which the interface calls a house, is 32 numbers
+//! and a count.
 
+use crate::default_schedule::Numbers;
 use crate::planner::{self, Memory, Request};
 
 /// What a call on plan bytes leaves: refusal number, position, first and
@@ -58,6 +60,13 @@ extern "C" {
         out_length: usize,
         figures: *mut u64,
     );
+    fn secondcoop_standard_house(numbers: *mut u32, count: *mut u32);
+    fn secondcoop_load_house(
+        sheet: *const u32,
+        sheet_length: usize,
+        numbers: *mut u32,
+        count: *mut u32,
+    ) -> u32;
     fn secondcoop_plan(
         bytes: *const u8,
         bytes_length: usize,
@@ -71,6 +80,8 @@ extern "C" {
         guide_count: u32,
         schedule: *const u32,
         schedule_length: usize,
+        house: *const u32,
+        house_length: usize,
         budget: u32,
         route: *mut u32,
         route_length: usize,
@@ -194,35 +205,38 @@ pub fn write_plan(
     })
 }
 
+/// The default schedule until a sheet is accepted.
+pub fn standard_schedule(numbers: &mut Numbers, count: &mut u32) {
+    // SAFETY: the pointers are those of live numbers, lent mutably.
+    unsafe { secondcoop_standard_house(numbers.as_mut_ptr(), count) }
+}
+
+/// Loads a sheet for the default schedule: 0, or the refusal's number.
+pub fn load_default_schedule(sheet: &[u32], numbers: &mut Numbers, count: &mut u32) -> u32 {
+    // SAFETY: as above, and pointer and length are those of a live slice.
+    unsafe { secondcoop_load_house(sheet.as_ptr(), sheet.len(), numbers.as_mut_ptr(), count) }
+}
+
 /// A planner call.
 pub fn plan(request: &Request, memory: Memory) -> planner::Figures {
-    let &Request {
-        bytes,
-        start,
-        goal,
-        barred,
-        anchor,
-        guides,
-        guide_count,
-        schedule,
-        budget,
-    } = request;
     // SAFETY: as above, and the memory is lent mutably and is disjoint.
     figures_of(|figures| unsafe {
         secondcoop_plan(
-            bytes.as_ptr(),
-            bytes.len(),
-            start,
-            goal,
-            barred,
-            anchor.as_ptr(),
-            anchor.len(),
-            guides.as_ptr(),
-            guides.len(),
-            guide_count,
-            schedule.as_ptr(),
-            schedule.len(),
-            budget,
+            request.bytes.as_ptr(),
+            request.bytes.len(),
+            request.start,
+            request.goal,
+            request.barred,
+            request.anchor.as_ptr(),
+            request.anchor.len(),
+            request.guides.as_ptr(),
+            request.guides.len(),
+            request.guide_count,
+            request.schedule.as_ptr(),
+            request.schedule.len(),
+            request.default_schedule.as_ptr(),
+            request.default_schedule.len(),
+            request.budget,
             memory.route.as_mut_ptr(),
             memory.route.len(),
             memory.log.as_mut_ptr(),

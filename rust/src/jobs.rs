@@ -1,8 +1,8 @@
 //! Seeded jobs for the planner: tiny graphs, ladders, grids, zero costs,
 //! self-edges, barred classes, hostile and constant sheets, guides without
-//! opinion, blind alleys, budgets around the ends of rounds, start = goal, no
-//! walk to the goal, long paths whose costs pass 32 bits, and jobs damaged for
-//! each refusal.
+//! opinion, blind alleys, default schedules beside a job's own and in its
+//! place, budgets around the ends of rounds, start = goal, no walk to the goal,
+//! long paths whose costs pass 32 bits, and jobs damaged for each refusal.
 
 use std::collections::BTreeMap;
 
@@ -24,6 +24,7 @@ pub struct Job {
     pub guides: Vec<u32>,
     pub guide_count: u32,
     pub schedule: Vec<u32>,
+    pub default_schedule: Vec<u32>,
     pub budget: u32,
     pub route_room: usize,
     pub log_room: usize,
@@ -32,7 +33,8 @@ pub struct Job {
 }
 
 impl Job {
-    /// A job on a valid plan with full room that bars nothing.
+    /// A job on a valid plan with full room that bars nothing; its default
+    /// schedule is the standard one.
     #[allow(clippy::too_many_arguments)]
     pub fn new(
         plan: &Plan,
@@ -54,6 +56,7 @@ impl Job {
             guides,
             guide_count,
             schedule,
+            default_schedule: planner::STANDARD_SCHEDULE.to_vec(),
             budget,
             route_room: vertices,
             log_room: 64,
@@ -64,7 +67,18 @@ impl Job {
 
     /// The factors that its rounds have, W1 and W2 of each.
     pub fn factors(&self) -> &[u32] {
-        planner::in_force(&self.schedule)
+        planner::in_force(&self.schedule, &self.default_schedule)
+    }
+
+    /// The job as bytes can say it: a default schedule that is in force, unless
+    /// it is the standard one, becomes its own.
+    pub fn as_bench_job(&self) -> Job {
+        let mut job = self.clone();
+        if job.schedule.is_empty() && job.default_schedule != planner::STANDARD_SCHEDULE {
+            job.schedule = job.default_schedule;
+        }
+        job.default_schedule = planner::STANDARD_SCHEDULE.to_vec();
+        job
     }
 
     /// The job with room in its log for all its turns: 2·V in each round.
@@ -86,6 +100,7 @@ impl Job {
             guides: &self.guides,
             guide_count: self.guide_count,
             schedule: &self.schedule,
+            default_schedule: &self.default_schedule,
             budget: self.budget,
         }
     }
@@ -126,7 +141,7 @@ impl Job {
         (answer, events)
     }
 
-    /// The job as the bench program's bytes.
+    /// The job as the bench program's bytes, which say no default schedule.
     pub fn bench_bytes(&self) -> Vec<u8> {
         let mut bytes = Vec::new();
         generate::push_number(&mut bytes, self.bytes.len() as u32);
@@ -151,7 +166,7 @@ pub fn random_schedule(random: &mut Random) -> Vec<u32> {
     match random.below(12) {
         0 => return Vec::new(),
         1 => return vec![100, 100],
-        2 => return planner::HOUSE_SCHEDULE.to_vec(),
+        2 => return planner::STANDARD_SCHEDULE.to_vec(),
         _ => {}
     }
     let rounds = match random.below(10) {
@@ -176,6 +191,55 @@ pub fn random_schedule(random: &mut Random) -> Vec<u32> {
         .zip(w2)
         .flat_map(|(w1, w2)| [w1, w2])
         .collect()
+}
+
+/// The factors of 1 to 16 rounds: a sheet that a site may load for its default
+/// schedule, the paper's house schedule.
+pub fn random_default(random: &mut Random) -> Vec<u32> {
+    let rounds = match random.below(4) {
+        0 => random.pick(&[1, 16]),
+        _ => random.range(1, 16) as usize,
+    };
+    let most = [(); 2].map(|()| random.pick(&[100, 200, 500, 10_000]));
+    falling_factors(random, rounds, most)
+}
+
+/// A default schedule that row 10 refuses: empty, odd, over 16 rounds, out of
+/// range, or rising in W1 or in W2.
+pub fn bad_default(random: &mut Random) -> Vec<u32> {
+    let rounds = random.range(2, 16) as usize;
+    let mut factors = falling_factors(random, rounds, [500; 2]);
+    match random.below(6) {
+        0 => factors.clear(),
+        1 => factors.truncate(2 * random.index(rounds) + 1),
+        2 => factors = vec![100; random.pick(&[33, 34, 36])],
+        3 | 4 => {
+            let index = random.index(factors.len());
+            factors[index] = random.pick(&[0, 1, 99, 10_001, u32::MAX]);
+        }
+        _ => {
+            let index = random.index(factors.len() - 2);
+            factors[index + 2] = factors[index] + 1;
+        }
+    }
+    factors
+}
+
+/// Hands a job a default schedule that is as good as the one in force: often
+/// the job's own, which then is empty; else any one beside it, which is not
+/// looked at.
+pub fn hand_default(random: &mut Random, job: &mut Job) {
+    job.default_schedule = match (job.schedule.is_empty(), random.below(6)) {
+        (_, 0) => planner::STANDARD_SCHEDULE.to_vec(),
+        (false, 1 | 2) => std::mem::take(&mut job.schedule),
+        (false, 3) => bad_default(random),
+        _ => random_default(random),
+    };
+}
+
+/// The default schedules of a seed's jobs, which are drawn beside them.
+fn defaults(seed: u64) -> Random {
+    Random::new(seed ^ 0xDEFA)
 }
 
 /// A table that passes refusals 12 and 13.
@@ -891,9 +955,22 @@ pub fn ends_of_rounds(job: &Job) -> Vec<u32> {
         .collect()
 }
 
-/// Valid jobs of all shapes: each with a budget that never runs out and with
-/// budgets at, before and after the ends of its rounds.
+/// Valid jobs of all shapes, with any default schedules: each with a budget
+/// that never runs out and with budgets at, before and after the ends of its
+/// rounds.
 pub fn valid_jobs(seed: u64, count: usize, sink: &mut dyn FnMut(&Plan, &Job)) {
+    let mut defaults = defaults(seed);
+    let mut hand = |job: &mut Job| hand_default(&mut defaults, job);
+    handed_jobs(seed, count, &mut hand, sink);
+}
+
+/// The same with what each is handed.
+fn handed_jobs(
+    seed: u64,
+    count: usize,
+    hand: &mut dyn FnMut(&mut Job),
+    sink: &mut dyn FnMut(&Plan, &Job),
+) {
     let mut random = Random::new(seed);
     for _ in 0..count {
         let job = match random.below(7) {
@@ -908,27 +985,31 @@ pub fn valid_jobs(seed: u64, count: usize, sink: &mut dyn FnMut(&Plan, &Job)) {
         };
         let job = dearer(&mut random, job);
         let (plan, mut job) = with_fewer_opinions(&mut random, job);
+        hand(&mut job);
         sink(&plan, &job);
-        let mut budgets = Vec::new();
-        for end in ends_of_rounds(&job) {
-            budgets.extend([end.saturating_sub(1), end, end + 1]);
-        }
-        budgets.extend([0, 1]);
-        if let Some(&last) = budgets.iter().max() {
-            budgets.push(random.range32(0, last));
-        }
-        budgets.sort_unstable();
-        budgets.dedup();
-        if budgets.len() > 6 {
-            for _ in 0..budgets.len() - 6 {
-                budgets.remove(random.index(budgets.len()));
-            }
-        }
-        for budget in budgets {
+        for budget in random_budgets(&mut random, &job) {
             job.budget = budget;
             sink(&plan, &job);
         }
     }
+}
+
+/// Up to six budgets, most of them at, before and after the ends of rounds.
+fn random_budgets(random: &mut Random, job: &Job) -> Vec<u32> {
+    let mut budgets = Vec::new();
+    for end in ends_of_rounds(job) {
+        budgets.extend([end.saturating_sub(1), end, end + 1]);
+    }
+    budgets.extend([0, 1]);
+    if let Some(&last) = budgets.iter().max() {
+        budgets.push(random.range32(0, last));
+    }
+    budgets.sort_unstable();
+    budgets.dedup();
+    while budgets.len() > 6 {
+        budgets.remove(random.index(budgets.len()));
+    }
+    budgets
 }
 
 /// The least cost of an edge on a long path; 269 of them pass 32 bits.
@@ -1017,7 +1098,7 @@ fn gated_job(random: &mut Random) -> (Plan, Job) {
 /// that never runs out, with one that cuts the path, and with one near the
 /// end of a round.
 pub fn long_jobs(seed: u64, count: usize, sink: &mut dyn FnMut(&Plan, &Job)) {
-    let mut random = Random::new(seed);
+    let (mut random, mut defaults) = (Random::new(seed), defaults(seed));
     for _ in 0..count {
         let (plan, mut job) = match random.one_in(3) {
             true => gated_job(&mut random),
@@ -1026,6 +1107,7 @@ pub fn long_jobs(seed: u64, count: usize, sink: &mut dyn FnMut(&Plan, &Job)) {
                 with_fewer_opinions(&mut random, job)
             }
         };
+        hand_default(&mut defaults, &mut job);
         sink(&plan, &job);
         let ends = ends_of_rounds(&job);
         let end = random.pick(&ends);
@@ -1170,9 +1252,10 @@ pub fn damage_job(random: &mut Random, plan: &Plan, job: &mut Job, number: u32) 
 }
 
 /// Jobs damaged for one refusal each, and sometimes for a later one as well,
-/// which must not count.
+/// which must not count. What row 10 refuses is the job's own schedule or the
+/// default one.
 pub fn damaged_jobs(seed: u64, count: usize, sink: &mut dyn FnMut(&Job, Answer)) {
-    let mut random = Random::new(seed);
+    let (mut random, mut defaults) = (Random::new(seed), defaults(seed));
     for index in 0..count {
         let number = CALL_REFUSALS[index % CALL_REFUSALS.len()];
         let shape = random.pick(&SHAPES);
@@ -1186,6 +1269,10 @@ pub fn damaged_jobs(seed: u64, count: usize, sink: &mut dyn FnMut(&Job, Answer))
         let Some(position) = damage_job(&mut random, &plan, &mut job, number) else {
             continue;
         };
+        hand_default(&mut defaults, &mut job);
+        if number == 10 && defaults.one_in(3) {
+            (job.schedule, job.default_schedule) = (vec![], bad_default(&mut defaults));
+        }
         sink(&job, Answer::Refused { number, position });
     }
 }
@@ -1193,7 +1280,7 @@ pub fn damaged_jobs(seed: u64, count: usize, sink: &mut dyn FnMut(&Job, Answer))
 /// Jobs with several faults at once, in any order, and with bytes changed at
 /// random; what they get is not known from their making.
 pub fn wild_jobs(seed: u64, count: usize, sink: &mut dyn FnMut(&Job)) {
-    let mut random = Random::new(seed);
+    let (mut random, mut defaults) = (Random::new(seed), defaults(seed));
     for _ in 0..count {
         let shape = random.pick(&SHAPES);
         let job = random_job(&mut random, shape);
@@ -1221,6 +1308,10 @@ pub fn wild_jobs(seed: u64, count: usize, sink: &mut dyn FnMut(&Job)) {
                 }
             }
         }
+        hand_default(&mut defaults, &mut job);
+        if defaults.one_in(6) {
+            job.default_schedule = bad_default(&mut defaults);
+        }
         sink(&job);
     }
 }
@@ -1228,7 +1319,7 @@ pub fn wild_jobs(seed: u64, count: usize, sink: &mut dyn FnMut(&Job)) {
 /// Small jobs with every budget from 0 to two turns past the last end of a
 /// round.
 pub fn every_budget(seed: u64, count: usize, sink: &mut dyn FnMut(&Plan, &Job)) {
-    let mut random = Random::new(seed);
+    let (mut random, mut defaults) = (Random::new(seed), defaults(seed));
     for _ in 0..count {
         let job = match random.below(5) {
             0 => twisted_job(&mut random),
@@ -1239,6 +1330,7 @@ pub fn every_budget(seed: u64, count: usize, sink: &mut dyn FnMut(&Plan, &Job)) 
         };
         let job = dearer(&mut random, job);
         let (plan, mut job) = with_fewer_opinions(&mut random, job);
+        hand_default(&mut defaults, &mut job);
         let last = ends_of_rounds(&job).into_iter().max().unwrap_or(0);
         for budget in 0..=last + 2 {
             job.budget = budget;
@@ -1468,12 +1560,12 @@ fn connected(random: &mut Random, vertices: u32) -> Plan {
 
 /// Bytes for the bench program with the text that their making decides:
 /// valid jobs, jobs damaged for each refusal that can be met there, changed
-/// and random bytes.
+/// and random bytes. Bytes say no default schedule: the standard one stands.
 pub fn bench_jobs(seed: u64, count: usize, sink: &mut dyn FnMut(&[u8], Option<String>)) {
     let mut random = Random::new(seed);
     let refused = |number: u32, position: usize| Some(format!("refused {number} at {position}\n"));
     let mut turn = 0;
-    valid_jobs(seed ^ 0xB5, count, &mut |plan, job| {
+    handed_jobs(seed ^ 0xB5, count, &mut |_| (), &mut |plan, job| {
         turn += 1;
         let mut job = job.clone();
         match turn % 5 {

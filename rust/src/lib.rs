@@ -6,6 +6,7 @@ pub mod asked;
 pub mod bench_text;
 pub mod clock;
 pub mod compare;
+pub mod default_schedule;
 pub mod dijkstra;
 pub mod events;
 pub mod ffi;

@@ -22,17 +22,23 @@ pub const NO_OPINION: u32 = u32::MAX;
 /// The greatest number on a guide sheet that is an opinion.
 pub const MOST_OPINION: u32 = NO_OPINION - 1;
 
-/// W1 and W2 of each round where the schedule is empty.
-pub const HOUSE_SCHEDULE: [u32; 12] = [500, 500, 300, 300, 200, 200, 150, 150, 120, 120, 100, 100];
+/// W1 and W2 of our six rounds: the paper's house schedule until a site loads
+/// its own.
+pub const STANDARD_SCHEDULE: [u32; 12] =
+    [500, 500, 300, 300, 200, 200, 150, 150, 120, 120, 100, 100];
 
-/// The factors that a call's rounds have: its schedule's, or the house
-/// schedule's if that is empty.
-pub fn in_force(schedule: &[u32]) -> &[u32] {
+/// The factors that a call's rounds have: its schedule's, or if that is empty
+/// the default schedule's, which the paper calls the house schedule.
+pub fn in_force<'a>(schedule: &'a [u32], default_schedule: &'a [u32]) -> &'a [u32] {
     match schedule {
-        [] => &HOUSE_SCHEDULE,
+        [] => default_schedule,
         schedule => schedule,
     }
 }
+
+/// The most factors of a schedule, and the greatest of them.
+pub const MOST_FACTORS: usize = 32;
+pub const MOST_FACTOR: u32 = 10_000;
 
 /// A barred number has a bit for each class and is from 0 to this.
 pub const MOST_BARRED: u32 = 255;
@@ -50,7 +56,8 @@ pub fn wide_numbers(vertices: usize) -> usize {
 /// What one planner call is asked: the paper's job. Bit k of `barred` bars
 /// the edges of class k. The guide sheets stand one after another, with
 /// [`NO_OPINION`] where a guide has none; the schedule has W1 and W2 of each
-/// round.
+/// round, and so has the default one, the paper's house schedule, which is
+/// looked at only if the schedule is empty.
 #[derive(Clone, Copy, Debug)]
 pub struct Request<'a> {
     pub bytes: &'a [u8],
@@ -61,6 +68,7 @@ pub struct Request<'a> {
     pub guides: &'a [u32],
     pub guide_count: u32,
     pub schedule: &'a [u32],
+    pub default_schedule: &'a [u32],
     pub budget: u32,
 }
 
@@ -297,10 +305,22 @@ pub enum Fault {
     AnchorLowest,
     /// g(goal) must be at most half the bound: the goal is expanded before.
     FinishLate,
+    /// Row 10 tests the call's own schedule alone.
+    DefaultUntested,
+    /// The default schedule is taken before the call's own, unless it is
+    /// empty.
+    DefaultPreferred,
+    /// Row 10 tests the default schedule too where the call has its own.
+    DefaultTestedBeside,
+    /// The standard schedule is taken in place of a default one that row 10
+    /// lets pass.
+    StandardForDefault,
+    /// An empty default schedule means the standard one.
+    StandardForEmpty,
 }
 
 /// All faults.
-pub const FAULTS: [Fault; 51] = [
+pub const FAULTS: [Fault; 56] = [
     Fault::CostOfGoal,
     Fault::OpenAgain,
     Fault::Forgotten,
@@ -352,6 +372,11 @@ pub const FAULTS: [Fault; 51] = [
     Fault::GuideByFirstLeast,
     Fault::AnchorLowest,
     Fault::FinishLate,
+    Fault::DefaultUntested,
+    Fault::DefaultPreferred,
+    Fault::DefaultTestedBeside,
+    Fault::StandardForDefault,
+    Fault::StandardForEmpty,
 ];
 
 /// Who looks on at a search: counts its events, or plants a fault.
@@ -967,10 +992,9 @@ impl<O: Onlooker> Search<'_, O> {
 
     fn run(&mut self, schedule: &[u32]) -> End {
         for (round, pair) in (1..).zip(schedule.chunks_exact(2)) {
-            let factors = Factors {
-                w1: pair[0].into(),
-                w2: pair[1].into(),
-            };
+            // Only a faulty planner has factors above the limit.
+            let [w1, w2] = [pair[0], pair[1]].map(|factor| factor.min(MOST_FACTOR).into());
+            let factors = Factors { w1, w2 };
             self.turns_before = self.turns;
             if !(self.onlooker.has(Fault::NoBegin) && self.spent()) {
                 self.begin_round();
@@ -983,25 +1007,32 @@ impl<O: Onlooker> Search<'_, O> {
                 None => {}
                 Some(_) if self.rounds > 0 => {
                     if self.onlooker.has(Fault::BoundOfCutRound) {
-                        self.bound = pair[0] * pair[1];
+                        self.bound = (w1 * w2) as u32;
                     }
                     return End::Route;
                 }
                 Some(end) => return end,
             }
             self.finish_round(round);
-            self.bound = pair[0] * pair[1];
+            self.bound = (w1 * w2) as u32;
         }
-        End::Route
+        // Only a faulty planner has no rounds.
+        match self.kept {
+            Some(_) => End::Route,
+            None => End::Spent,
+        }
     }
 }
 
-fn bad_schedule(schedule: &[u32]) -> bool {
-    schedule.len() > 32
+/// Whether row 10 refuses the factors of a call's rounds, or of a sheet that a
+/// site loads for its default schedule.
+pub fn is_bad_schedule(schedule: &[u32]) -> bool {
+    schedule.is_empty()
+        || schedule.len() > MOST_FACTORS
         || schedule.len() % 2 == 1
         || schedule
             .iter()
-            .any(|factor| !(100..=10_000).contains(factor))
+            .any(|factor| !(100..=MOST_FACTOR).contains(factor))
         || schedule
             .iter()
             .zip(schedule.iter().skip(2))
@@ -1045,12 +1076,13 @@ pub fn plan_observed_closely(
 
 fn plan_with<O: Onlooker>(request: &Request, memory: Memory, onlooker: O) -> Answer {
     let room = Room::of(&memory);
-    let counts = match admitted(request, room, &onlooker) {
+    let schedule = taken(request, &onlooker);
+    let counts = match admitted(request, schedule, room, &onlooker) {
         Ok(counts) => counts,
         Err(Refusal { number, position }) => return Answer::Refused { number, position },
     };
     let mut search = loaded(request, memory, counts, onlooker);
-    let end = search.run(in_force(request.schedule));
+    let end = search.run(schedule);
     let turns = search.turns;
     match end {
         End::Route => {
@@ -1093,9 +1125,31 @@ impl Room {
     }
 }
 
+/// The factors that a call takes for its rounds, to the end.
+fn taken<'a>(request: &Request<'a>, onlooker: &impl Onlooker) -> &'a [u32] {
+    let (own, default) = (request.schedule, request.default_schedule);
+    let has = |fault| onlooker.has(fault);
+    match own {
+        _ if has(Fault::DefaultPreferred) => in_force(default, own),
+        [] if has(Fault::StandardForEmpty) => in_force(default, &STANDARD_SCHEDULE),
+        [] if has(Fault::StandardForDefault) && !is_bad_schedule(default) => &STANDARD_SCHEDULE,
+        _ => in_force(own, default),
+    }
+}
+
+/// Whether row 10 refuses a call that takes these factors.
+fn is_refused_for(schedule: &[u32], request: &Request, onlooker: &impl Onlooker) -> bool {
+    if onlooker.has(Fault::DefaultUntested) && request.schedule.is_empty() {
+        return false;
+    }
+    let beside = onlooker.has(Fault::DefaultTestedBeside);
+    is_bad_schedule(schedule) || beside && is_bad_schedule(request.default_schedule)
+}
+
 /// V and M of a call that no row of the paper's table refuses.
 fn admitted(
     request: &Request,
+    schedule: &[u32],
     room: Room,
     onlooker: &impl Onlooker,
 ) -> Result<(usize, usize), Refusal> {
@@ -1113,7 +1167,7 @@ fn admitted(
     {
         return refused(9, 0);
     }
-    if bad_schedule(request.schedule) {
+    if is_refused_for(schedule, request, onlooker) {
         return refused(10, 0);
     }
     if room.is_short(vertices, edges) {

@@ -3,6 +3,7 @@
 //! memory are compared, the words around it included.
 
 use crate::bench_text::{self, logged, Turn};
+use crate::default_schedule::{DefaultSchedule, Numbers};
 use crate::ffi;
 use crate::guarded::{Guarded, GUARD};
 use crate::jobs::Job;
@@ -16,6 +17,15 @@ pub trait Planner {
     /// The length of the printed text; its first bytes are written as far as
     /// there is room.
     fn bench_text(&self, job: &[u8], text: &mut [u8]) -> usize;
+}
+
+/// Who keeps a site's default schedule, in lent numbers and a lent count.
+pub trait Loader {
+    /// The default schedule until a sheet is accepted.
+    fn standard_schedule(&self, numbers: &mut Numbers, count: &mut u32);
+
+    /// Loads a sheet: 0, or the refusal's number.
+    fn load_default_schedule(&self, sheet: &[u32], numbers: &mut Numbers, count: &mut u32) -> u32;
 }
 
 /// The whole text that a planner prints for a job's bytes.
@@ -38,6 +48,16 @@ impl Planner for Library {
     }
 }
 
+impl Loader for Library {
+    fn standard_schedule(&self, numbers: &mut Numbers, count: &mut u32) {
+        ffi::standard_schedule(numbers, count);
+    }
+
+    fn load_default_schedule(&self, sheet: &[u32], numbers: &mut Numbers, count: &mut u32) -> u32 {
+        ffi::load_default_schedule(sheet, numbers, count)
+    }
+}
+
 /// Writes the first bytes of a text as far as there is room.
 pub fn write_text(printed: &str, text: &mut [u8]) -> usize {
     let written = printed.len().min(text.len());
@@ -55,6 +75,23 @@ impl Planner for SecondPlanner {
 
     fn bench_text(&self, job: &[u8], text: &mut [u8]) -> usize {
         write_text(&bench_text::bench_text(job), text)
+    }
+}
+
+impl Loader for SecondPlanner {
+    fn standard_schedule(&self, numbers: &mut Numbers, count: &mut u32) {
+        let standard = DefaultSchedule::standard();
+        (*numbers, *count) = (standard.numbers, standard.count);
+    }
+
+    fn load_default_schedule(&self, sheet: &[u32], numbers: &mut Numbers, count: &mut u32) -> u32 {
+        let mut schedule = DefaultSchedule {
+            numbers: *numbers,
+            count: *count,
+        };
+        let refusal = schedule.load(sheet);
+        (*numbers, *count) = (schedule.numbers, schedule.count);
+        refusal
     }
 }
 
@@ -80,9 +117,10 @@ pub struct Outcome {
     pub log: Vec<u32>,
     pub work: Vec<u32>,
     pub wide: Vec<u64>,
-    /// The plan's bytes; anchor table, guide sheets and schedule.
+    /// The plan's bytes; anchor table, guide sheets, schedule and default
+    /// schedule.
     pub bytes: Vec<u8>,
-    pub numbers: [Vec<u32>; 3],
+    pub numbers: [Vec<u32>; 4],
 }
 
 impl Outcome {
@@ -140,12 +178,14 @@ pub fn run(planner: &dyn Planner, job: &Job, salt: u64) -> Outcome {
     let anchor = Guarded::with_contents(&job.anchor, salt);
     let guides = Guarded::with_contents(&job.guides, salt);
     let schedule = Guarded::with_contents(&job.schedule, salt);
+    let default_schedule = Guarded::with_contents(&job.default_schedule, salt);
     let mut lent = Lent::before(job, salt);
     let request = Request {
         bytes: bytes.lent(),
         anchor: anchor.lent(),
         guides: guides.lent(),
         schedule: schedule.lent(),
+        default_schedule: default_schedule.lent(),
         ..job.request()
     };
     let figures = planner.plan(&request, lent.memory());
@@ -156,7 +196,7 @@ pub fn run(planner: &dyn Planner, job: &Job, salt: u64) -> Outcome {
         work: lent.work.all,
         wide: lent.wide.all,
         bytes: bytes.all,
-        numbers: [anchor.all, guides.all, schedule.all],
+        numbers: [anchor, guides, schedule, default_schedule].map(|lent| lent.all),
     }
 }
 

@@ -24,8 +24,9 @@ pub fn refusal_words(number: u32) -> Option<&'static str> {
         8 => "start or goal is not a place, or the barred number is above 255",
         9 => "there are over 8 guides, or a table has not one number for each place",
         10 => {
-            "the schedule has over 16 rounds, half a round, a factor outside 100 to 10000 or a \
-             factor that rises"
+            "the schedule, or the house schedule where it is empty, has over 16 rounds, half a \
+             round, a factor outside 100 to 10000 or a factor that rises, or both are empty; a \
+             sheet for the house schedule is rejected for the same, and it stays what it was"
         }
         11 => "lent memory is too short",
         12 => "the anchor table is not 0 at the goal",
@@ -67,8 +68,8 @@ pub fn position_words(number: u32) -> &'static str {
     }
 }
 
-/// Who takes a job: the bench program, which has limits of its own, or the
-/// planner call.
+/// Who takes a job: the bench program, which has limits of its own and takes
+/// no sheet for the default schedule, or the planner call.
 #[derive(Clone, Copy, Debug, PartialEq, Eq)]
 pub enum Taker {
     Bench,
@@ -77,16 +78,30 @@ pub enum Taker {
 
 impl Taker {
     /// Who plans a job: the bench program, or the planner call where it has
-    /// more bytes, places or lanes than the bench program takes.
+    /// more bytes, places or lanes than the bench program takes, or a sheet for
+    /// the default schedule.
     pub fn of(job: &TextJob) -> Taker {
-        let plan = job.lines().ok().and_then(|lines| lines.plan.lines());
-        let large = plan.is_some_and(|plan| {
-            plan.places.says as usize > MOST_BENCH_VERTICES || plan.lanes.len() > MOST_BENCH_EDGES
-        });
-        match large || job.bytes().len() > MOST_JOB_BYTES {
+        match is_large(job) || job.default_line().is_some() {
             true => Taker::Call,
             false => Taker::Bench,
         }
+    }
+}
+
+/// Whether a job is too large for the bench program.
+fn is_large(job: &TextJob) -> bool {
+    let plan = job.lines().ok().and_then(|lines| lines.plan.lines());
+    let large = plan.is_some_and(|plan| {
+        plan.places.says as usize > MOST_BENCH_VERTICES || plan.lanes.len() > MOST_BENCH_EDGES
+    });
+    large || job.bytes().len() > MOST_JOB_BYTES
+}
+
+/// Why a job that the planner call takes is not one for the bench program.
+pub fn beyond_bench(job: &TextJob) -> &'static str {
+    match is_large(job) {
+        true => "too large for the bench program",
+        false => "not one for the bench program, which takes our own house schedule alone",
     }
 }
 
@@ -124,6 +139,17 @@ pub fn remarks(job: &TextJob, taker: Taker) -> Vec<Remark> {
     remarks.0
 }
 
+/// Why a job's sheet for the default schedule is rejected; without remarks it
+/// is loaded.
+pub fn default_remarks(job: &TextJob) -> Vec<Remark> {
+    let mut remarks = Remarks(Vec::new());
+    if let Ok(lines) = job.lines() {
+        remarks.most_rounds(&lines.default_schedule, 10);
+        remarks.factors(&lines.default_schedule);
+    }
+    remarks.0
+}
+
 fn too_long(length: usize) -> String {
     format!("the job has {length} bytes, over the {MOST_JOB_BYTES} of the bench program")
 }
@@ -147,7 +173,7 @@ impl Remarks {
                 if length > MOST_JOB_BYTES {
                     self.add(0, 14, too_long(length));
                 }
-                self.most_rounds(job, 14);
+                self.most_rounds(&job.rounds, 14);
                 self.most_guides(job, 14);
             }
             // Without the tables' numbers there is no call.
@@ -167,10 +193,10 @@ impl Remarks {
                 self.ends(job, &plan);
                 self.most_guides(job, 9);
                 self.tables(job, Some(&plan), 9);
-                self.most_rounds(job, 10);
+                self.most_rounds(&job.rounds, 10);
             }
         }
-        self.factors(job);
+        self.factors(&job.rounds);
         self.anchor(job, &plan);
     }
 
@@ -191,9 +217,9 @@ impl Remarks {
         plan.lines()
     }
 
-    fn most_rounds(&mut self, job: &JobLines, refusal: u32) {
-        if let Some(round) = job.rounds.get(16) {
-            let words = format!("there are {} rounds, over 16", job.rounds.len());
+    fn most_rounds(&mut self, rounds: &[Line<[u32; 2]>], refusal: u32) {
+        if let Some(round) = rounds.get(16) {
+            let words = format!("there are {} rounds, over 16", rounds.len());
             self.add(round.number, refusal, words);
         }
     }
@@ -318,10 +344,10 @@ impl Remarks {
         }
     }
 
-    fn factors(&mut self, job: &JobLines) {
+    fn factors(&mut self, rounds: &[Line<[u32; 2]>]) {
         let fits = |factor: u32| (100..=10_000).contains(&factor);
         let mut before: Option<[u32; 2]> = None;
-        for round in &job.rounds {
+        for round in rounds {
             for (index, &factor) in round.says.iter().enumerate() {
                 let name = ["W1", "W2"][index];
                 if !fits(factor) {

@@ -1,20 +1,38 @@
 //! Plans a job of any size and prints it in the bench program's words: those
-//! that the bench program takes through its text, larger ones through the
-//! planner call.
+//! that the bench program takes through its text, larger ones and those with
+//! a sheet for the default schedule through the planner call.
 
 use crate::bench_text::{answer_text, logged, refused};
+use crate::default_schedule::DefaultSchedule;
 use crate::jobs::Job;
-use crate::planner::{in_force, wide_numbers, work_words, Answer, Memory};
-use crate::planners::{printed, Planner};
+use crate::planner::{in_force, wide_numbers, work_words, Answer, Memory, MOST_FACTORS};
+use crate::planners::{printed, Loader, Planner};
 use crate::reference::{MOST_EDGES, MOST_VERTICES};
 use crate::refusals::Taker;
-use crate::text::TextJob;
+use crate::text::{Line, TextJob};
 
-/// The factors of the longest schedule.
-const MOST_FACTORS: usize = 32;
+/// The factors of lines with pairs.
+fn factors(pairs: &[Line<[u32; 2]>]) -> Vec<u32> {
+    pairs.iter().flat_map(|pair| pair.says).collect()
+}
 
-/// What a planner prints for a job.
-pub fn run(planner: &dyn Planner, job: &TextJob) -> String {
+/// The default schedule that a job is planned on: the standard one, or its
+/// sheet's if that is accepted; and the refusal's number, or 0.
+pub fn loaded_default(loader: &dyn Loader, job: &TextJob) -> (DefaultSchedule, u32) {
+    let (mut numbers, mut count) = ([0; MOST_FACTORS], 0);
+    loader.standard_schedule(&mut numbers, &mut count);
+    let sheet = job
+        .lines()
+        .map_or(vec![], |lines| factors(&lines.default_schedule));
+    let refusal = match &sheet[..] {
+        [] => 0,
+        sheet => loader.load_default_schedule(sheet, &mut numbers, &mut count),
+    };
+    (DefaultSchedule { numbers, count }, refusal)
+}
+
+/// What a planner prints for a job, whose default schedule it loads too.
+pub fn run(planner: &(impl Planner + Loader), job: &TextJob) -> String {
     match Taker::of(job) {
         Taker::Bench => printed(planner, &job.bytes()),
         Taker::Call => call(planner, job),
@@ -25,16 +43,18 @@ pub fn run(planner: &dyn Planner, job: &TextJob) -> String {
 /// give: route, work and wide memory for the plan, and a log for 2·V turns in
 /// each round. The numbers of the tables are the anchor table's first, as many as
 /// there are places. Bytes without the numbers of a call ask none.
-pub fn asked(job: &TextJob) -> Option<Job> {
+pub fn asked(loader: &dyn Loader, job: &TextJob) -> Option<Job> {
     let lines = job.lines().ok()?;
     let numbers = lines.tables.numbers().ok()?;
-    let schedule: Vec<u32> = lines.rounds.iter().flat_map(|round| round.says).collect();
+    let (default_schedule, _) = loaded_default(loader, job);
+    let (schedule, default_schedule) = (factors(&lines.rounds), default_schedule.in_force());
     let (places, lanes) = lines.plan.lines().map_or((0, 0), |plan| {
         let places = plan.places.says.min(MOST_VERTICES) as usize;
         (places, plan.lanes.len().min(MOST_EDGES as usize))
     });
     let (anchor, guides) = numbers.split_at(places.min(numbers.len()));
-    let turns = places * in_force(&schedule).len().min(MOST_FACTORS);
+    let factors = in_force(&schedule, default_schedule);
+    let turns = places * factors.len().min(MOST_FACTORS);
     Some(Job {
         bytes: lines.plan.bytes().expect("a job's plan has bytes"),
         start: lines.start.says,
@@ -44,6 +64,7 @@ pub fn asked(job: &TextJob) -> Option<Job> {
         guides: guides.to_vec(),
         guide_count: lines.tables.guide_count().says as u32,
         schedule,
+        default_schedule: default_schedule.to_vec(),
         budget: lines.allowance.says,
         route_room: places,
         log_room: turns.min(lines.allowance.says as usize),
@@ -54,8 +75,8 @@ pub fn asked(job: &TextJob) -> Option<Job> {
 
 /// What the planner call that a job asks gives, printed. Where it asks none it
 /// is refused as the bench program does it.
-pub fn call(planner: &dyn Planner, job: &TextJob) -> String {
-    let Some(job) = asked(job) else {
+pub fn call(planner: &(impl Planner + Loader), job: &TextJob) -> String {
+    let Some(job) = asked(planner, job) else {
         return refused(14, 0);
     };
     let mut route = vec![0; job.route_room];

@@ -3,11 +3,16 @@
 //!
 //! A line is `places V`, `lane TAIL HEAD COST CLASS`, `start PLACE`,
 //! `goal PLACE`, `barred NUMBER`, `allowance TURNS`, `round W1 W2`,
-//! `anchor NUMBER ...` or `guide NUMBER ...`, where `-` in a guide's line in
-//! place of a number is no opinion; `#` begins a comment. Lanes, rounds and
-//! guides stand in their order, otherwise lines stand anywhere.
+//! `house W1 W2`, `anchor NUMBER ...` or `guide NUMBER ...`, where `-` in a
+//! guide's line in place of a number is no opinion; `#` begins a comment.
+//! Lanes, rounds, pairs of the house and guides stand in their order,
+//! otherwise lines stand anywhere.
 //! Where no lane has a class all classes are 0, and a barred number that is
 //! left out is 0: texts from before there were classes say what they said.
+//!
+//! The lines `house` are the sheet that the site loads for its default
+//! schedule, the paper's house schedule, before the job is planned. A job
+//! without them has the standard one; a job's bytes cannot say them.
 //!
 //! Bytes that these lines cannot say stand as hexadecimal pairs: `plan` in
 //! place of places and lanes, `tables` with `guides COUNT` in place of the
@@ -25,7 +30,7 @@ use crate::words::{
 };
 
 /// The words that begin a line; those of lines that have numbers come first.
-const LINE_WORDS: [&str; 13] = [
+const LINE_WORDS: [&str; 14] = [
     "places",
     "lane",
     "start",
@@ -33,6 +38,7 @@ const LINE_WORDS: [&str; 13] = [
     "barred",
     "allowance",
     "round",
+    "house",
     "anchor",
     "guide",
     "plan",
@@ -46,7 +52,7 @@ const NO_OPINION_WORD: &str = "-";
 
 /// The words of lines that have numbers, to be named in a message.
 fn number_words() -> String {
-    LINE_WORDS[..9].join(", ")
+    LINE_WORDS[..10].join(", ")
 }
 
 /// What a line says, and its number in the text; 0 if it does not stand
@@ -92,6 +98,8 @@ pub struct JobLines {
     pub barred: Line<u32>,
     pub allowance: Line<u32>,
     pub rounds: Vec<Line<[u32; 2]>>,
+    /// The pairs of the site's sheet; without any the site loads none.
+    pub default_schedule: Vec<Line<[u32; 2]>>,
     pub tables: TextTables,
 }
 
@@ -496,6 +504,7 @@ struct JobParts {
     barred: Option<Line<u32>>,
     allowance: Option<Line<u32>>,
     rounds: Vec<Line<[u32; 2]>>,
+    default_schedule: Vec<Line<[u32; 2]>>,
     anchor: Option<Line<Vec<u32>>>,
     guides: Vec<Line<Vec<u32>>>,
     count: Option<Line<u32>>,
@@ -512,6 +521,7 @@ impl JobParts {
             "barred" => words.once(&mut self.barred, words.one()?)?,
             "allowance" => words.once(&mut self.allowance, words.one()?)?,
             "round" => self.rounds.push(words.exactly()?),
+            "house" => self.default_schedule.push(words.exactly()?),
             "anchor" => words.once(&mut self.anchor, words.says(words.numbers()?))?,
             "guide" => self.guides.push(words.says(words.opinions()?)),
             "guides" => {
@@ -535,7 +545,8 @@ impl JobParts {
         let table_lines = self.anchor.is_some() || !self.guides.is_empty();
         let table_bytes = self.count.is_some() || self.tables.is_some();
         let others = [&self.start, &self.goal, &self.barred, &self.allowance];
-        let other_lines = !self.rounds.is_empty() || others.iter().any(|line| line.is_some());
+        let pairs = !self.rounds.is_empty() || !self.default_schedule.is_empty();
+        let other_lines = pairs || others.iter().any(|line| line.is_some());
         let plan = self.plan.is_some();
         if plan && plan_lines {
             return Some("'plan' stands in place of 'places' and 'lane'");
@@ -573,6 +584,7 @@ impl JobParts {
             barred: self.barred.unwrap_or(Line { number: 0, says: 0 }),
             allowance: self.allowance.ok_or(missing("allowance TURNS"))?,
             rounds: self.rounds,
+            default_schedule: self.default_schedule,
             tables,
         }))
     }
@@ -588,11 +600,19 @@ impl TextJob {
         parts.finish()
     }
 
-    /// The job's bytes.
+    /// The job's bytes; they do not say its default schedule.
     pub fn bytes(&self) -> Vec<u8> {
         match self {
             TextJob::Lines(lines) => lines.bytes(),
             TextJob::Bytes(bytes) => bytes.clone(),
+        }
+    }
+
+    /// The line where its default schedule begins, which bytes cannot say.
+    pub fn default_line(&self) -> Option<usize> {
+        match self {
+            TextJob::Lines(lines) => lines.default_schedule.first().map(|pair| pair.number),
+            TextJob::Bytes(_) => None,
         }
     }
 
@@ -824,6 +844,7 @@ impl JobLines {
             barred,
             allowance,
             rounds,
+            default_schedule: Vec::new(),
             tables,
         })
     }
@@ -843,9 +864,11 @@ impl fmt::Display for TextJob {
         writeln!(f, "goal {}", job.goal.says)?;
         writeln!(f, "barred {}", job.barred.says)?;
         writeln!(f, "allowance {}", job.allowance.says)?;
-        for round in &job.rounds {
-            let [w1, w2] = round.says;
-            writeln!(f, "round {w1} {w2}")?;
+        for (word, pairs) in [("round", &job.rounds), ("house", &job.default_schedule)] {
+            for pair in pairs {
+                let [w1, w2] = pair.says;
+                writeln!(f, "{word} {w1} {w2}")?;
+            }
         }
         write!(f, "{}", job.tables)
     }

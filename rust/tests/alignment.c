@@ -74,7 +74,17 @@ static void write_plan(void)
                           LANES, bytes[1], BYTES, figures);
 }
 
-static void plan_call(void)
+static void houses(void)
+{
+    words[0][0] = 300, words[0][1] = 200, words[0][2] = 100, words[0][3] = 100;
+    secondcoop_standard_house(words[1], words[2]);
+    figures[0] = secondcoop_load_house(words[0], 4, words[1], words[2]);
+    secondcoop_standard_house(words[3], words[4]);
+    figures[1] = secondcoop_load_house(words[0], 3, words[3], words[4]);
+}
+
+/* A call with a schedule of so many factors and a house of so many. */
+static void plan_on(size_t schedule_length, size_t house_length)
 {
     const size_t length = plan_bytes();
     for (uint32_t at = 0; at < PLACES; at++) {
@@ -82,11 +92,23 @@ static void plan_call(void)
         words[1][at] = at * 7919 % 13;
     }
     words[2][0] = 300, words[2][1] = 200, words[2][2] = 100, words[2][3] = 100;
+    words[2][4] = 400, words[2][5] = 150, words[2][6] = 400, words[2][7] = 100;
     /* The lanes of class 0 lead from a place to itself. */
     secondcoop_plan(bytes[0], length, 0, PLACES - 1, SECONDCOOP_CLASS(0), words[0], PLACES,
-                    words[1], PLACES, 1, words[2], 4, 1000, words[3], PLACES, words[4], 40,
+                    words[1], PLACES, 1, words[2], schedule_length,
+                    words[2] + 4, house_length, 1000, words[3], PLACES, words[4], 40,
                     words[5], SECONDCOOP_WORK_WORDS(PLACES, LANES),
                     wide, SECONDCOOP_WIDE_NUMBERS(PLACES), figures);
+}
+
+static void plan_call(void)
+{
+    plan_on(4, 4);
+}
+
+static void house_call(void)
+{
+    plan_on(0, 4);
 }
 
 static void bench_text(void)
@@ -122,7 +144,8 @@ int main(void)
         void (*call)(void);
     } functions[] = {
         {"numbers", numbers},     {"read_plan", read_plan},   {"write_plan", write_plan},
-        {"plan", plan_call},      {"bench_text", bench_text},
+        {"houses", houses},       {"plan", plan_call},        {"plan on a house", house_call},
+        {"bench_text", bench_text},
     };
     static struct memory first, other;
     int wrong = 0;
@@ -138,8 +161,10 @@ int main(void)
             }
         }
     }
-    /* The last planner call found a route: the memory compared is no refusal's. */
+    /* The planner calls found a route: the memory compared is no refusal's. */
     place(0);
     plan_call();
-    return wrong + (figures[SECONDCOOP_PLAN_ENDING] != SECONDCOOP_ROUTE);
+    wrong += figures[SECONDCOOP_PLAN_BOUND] != 10000;
+    house_call();
+    return wrong + (figures[SECONDCOOP_PLAN_BOUND] != 40000);
 }

@@ -31,7 +31,7 @@ fn every_ending_and_refusal_is_met() {
 fn the_text_and_the_call_agree() {
     let mut count = 0;
     jobs::valid_jobs(62, 1_000, &mut |plan, job| {
-        let mut job = job.clone();
+        let mut job = job.as_bench_job();
         // All turns: 2·V in each of 16 rounds at most.
         job.log_room = 2 * plan.vertices as usize * 16;
         let outcome = planners::run(&SecondPlanner, &job, count);

@@ -1,8 +1,9 @@
-//! The files in `examples`: each text form gives the bytes beside it, and
-//! the library and the second planner print the text beside them.
+//! The files in `examples`: each text form gives the bytes beside it, but for
+//! one with a sheet for the default schedule, and the library and the second
+//! planner print the text beside them.
 
 use std::fs;
-use std::path::PathBuf;
+use std::path::{Path, PathBuf};
 use std::process::Command;
 
 use secondcoop_tests::lead;
@@ -15,17 +16,29 @@ fn examples() -> PathBuf {
     PathBuf::from(env!("CARGO_MANIFEST_DIR")).join("../examples")
 }
 
-/// The names of the jobs.
-fn names() -> Vec<String> {
+/// The names of the files with an ending.
+fn names_of(ending: &str) -> Vec<String> {
     let mut names: Vec<String> = fs::read_dir(examples())
         .expect("there are examples")
         .filter_map(|entry| {
             let name = entry.ok()?.file_name().into_string().ok()?;
-            name.strip_suffix(".job").map(String::from)
+            name.strip_suffix(ending).map(String::from)
         })
         .collect();
     names.sort();
     names
+}
+
+/// The names of the jobs that have bytes.
+fn names() -> Vec<String> {
+    names_of(".job")
+}
+
+/// The names of the jobs that have none.
+fn names_without_bytes() -> Vec<String> {
+    let (texts, printed, bytes) = (names_of(".txt"), names_of(".out"), names());
+    let without = |name: &String| printed.contains(name) && !bytes.contains(name);
+    texts.into_iter().filter(without).collect()
 }
 
 fn read(name: &str, form: &str) -> Vec<u8> {
@@ -60,7 +73,8 @@ fn all_are_there() {
     wanted.sort();
     assert_eq!(names(), wanted);
     let read_me = read_text("README", "md");
-    for name in floors {
+    assert_eq!(names_without_bytes(), ["cold-store"]);
+    for name in floors.into_iter().chain(["cold-store", "cold_store.c"]) {
         assert!(read_me.contains(&format!("`{name}`")), "{name}");
     }
 }
@@ -150,7 +164,7 @@ fn a_silly_guide_is_kept_on_its_lead() {
     for planner in [&Library as &dyn Planner, &SecondPlanner] {
         for (text, alley) in [(&text, &[0, 4, 5, 6][..]), (&longer, &[0, 4, 5])] {
             let job = TextJob::parse(text).expect("a text form");
-            let job = run::asked(&job).expect("a job");
+            let job = run::asked(&Library, &job).expect("a job");
             let turns = lead::of_log(planner, &job);
             let (guides, anchor) = turns.split_at(alley.len());
             assert!(guides.iter().all(|turn| turn.table == 1));
@@ -164,6 +178,30 @@ fn a_silly_guide_is_kept_on_its_lead() {
     }
 }
 
+/// The cold store's floor is that of the wall, and so is its job but for the
+/// sheet for the default schedule. On that both planners print what stands
+/// beside it: other turns, more rounds, the same route.
+#[test]
+fn a_cold_store_is_planned_on_its_own_default_schedule() {
+    let (text, wall) = (read_text("cold-store", "txt"), read_text("wall", "txt"));
+    let job = TextJob::parse(&text).expect("a text form");
+    let lines = job.to_string();
+    let without: Vec<&str> = lines
+        .lines()
+        .filter(|line| !line.starts_with("house "))
+        .collect();
+    let wall = TextJob::parse(&wall).expect("a text form").to_string();
+    assert!(without.into_iter().eq(wall.lines()));
+    let expected = read_text("cold-store", "out");
+    assert_eq!(run::run(&Library, &job), expected);
+    assert_eq!(run::run(&SecondPlanner, &job), expected);
+    let ours = read_text("wall", "out");
+    let route = |printed: &str| printed[printed.find("route").expect("a route")..].to_string();
+    let rounds = route(&ours).replace("rounds 6 turns 21", "rounds 9 turns 15");
+    assert_eq!(route(&expected), rounds);
+    assert_ne!(turn_of(&expected, 5), turn_of(&ours, 5));
+}
+
 /// The bench program's own job is job A.
 #[test]
 fn the_bench_programs_job_is_job_a() {
@@ -171,17 +209,35 @@ fn the_bench_programs_job_is_job_a() {
     assert_eq!(fs::read(own).expect("a job"), read("job-a", "job"));
 }
 
+/// The tool on a file: whether all is well, and its output.
+fn job(command: &str, path: &Path) -> (bool, Vec<u8>) {
+    let mut tool = Command::new(env!("CARGO_BIN_EXE_job"));
+    let output = tool.arg(command).arg(path).output().expect("the tool runs");
+    (output.status.success(), output.stdout)
+}
+
+/// A job without bytes is planned and printed, and its text form gives itself.
+#[test]
+fn the_tool_on_jobs_without_bytes() {
+    for name in names_without_bytes() {
+        let path = examples().join(format!("{name}.txt"));
+        for command in ["run", "print"] {
+            assert_eq!(job(command, &path), (true, read(&name, "out")));
+        }
+        let (good, text) = job("text", &path);
+        let other = Path::new(env!("CARGO_TARGET_TMPDIR")).join(format!("{name}.text"));
+        fs::write(&other, &text).expect("a file is written");
+        assert_eq!(job("text", &other), (good, text));
+        assert!(job("check", &path).1.starts_with(b"nothing is wrong: "));
+        for command in ["bytes", "hex"] {
+            assert_eq!(job(command, &path), (false, vec![]));
+        }
+    }
+}
+
 /// The tool on the files: bytes, hexadecimal pairs, text, what is wrong.
 #[test]
 fn the_tool_turns_each_form_into_the_others() {
-    let job = |command: &str, path: &PathBuf| {
-        let output = Command::new(env!("CARGO_BIN_EXE_job"))
-            .arg(command)
-            .arg(path)
-            .output()
-            .expect("the tool runs");
-        (output.status.success(), output.stdout)
-    };
     let directory = PathBuf::from(env!("CARGO_TARGET_TMPDIR"));
     for name in names() {
         let bytes = read(&name, "job");
@@ -204,8 +260,8 @@ fn the_tool_turns_each_form_into_the_others() {
             }
         }
     }
-    let (good, words) = job("describe", &PathBuf::from("13"));
+    let (good, words) = job("describe", Path::new("13"));
     assert!(good && String::from_utf8_lossy(&words).starts_with("refusal 13: the anchor table"));
-    assert!(!job("describe", &PathBuf::from("0")).0);
+    assert!(!job("describe", Path::new("0")).0);
     assert!(!job("bytes", &examples().join("plan-a.txt")).0);
 }

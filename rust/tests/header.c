@@ -39,6 +39,61 @@ static void numbers(void)
     expect("write_plan_number refuses", figures, (const uint64_t[]){1, 0, 0, 0}, 4);
 }
 
+/* The house of the calls below that have no schedule. */
+static uint32_t house[SECONDCOOP_HOUSE_NUMBERS], house_count;
+
+/* The standard house; a sheet that is rejected and leaves it, one that is
+ * loaded into its first numbers. */
+static void houses(void)
+{
+    static const uint32_t standard[SECONDCOOP_HOUSE_NUMBERS] = {500, 500, 300, 300, 200, 200,
+                                                                150, 150, 120, 120, 100, 100};
+    static const uint32_t sheet[] = {700, 600, 700, 100}, rising[] = {100, 100, 100, 101};
+    uint32_t loaded[SECONDCOOP_HOUSE_NUMBERS], count;
+    memset(house, 0xEE, sizeof house);
+    secondcoop_standard_house(house, &house_count);
+    wrong += house_count != 2 * SECONDCOOP_STANDARD_ROUNDS;
+    wrong += memcmp(house, standard, sizeof house) != 0;
+    secondcoop_standard_house(loaded, &count);
+    wrong += secondcoop_load_house(rising, 4, loaded, &count) != SECONDCOOP_BAD_SCHEDULE;
+    wrong += secondcoop_load_house(sheet, 0, loaded, &count) != SECONDCOOP_BAD_SCHEDULE;
+    wrong += count != house_count || memcmp(loaded, house, sizeof house) != 0;
+    wrong += secondcoop_load_house(sheet, 4, loaded, &count) != SECONDCOOP_NOT_REFUSED;
+    wrong += count != 4 || memcmp(loaded, sheet, sizeof sheet) != 0;
+    wrong += memcmp(loaded + 4, house + 4, sizeof house - sizeof sheet) != 0;
+}
+
+/* A call on one place with a schedule and a house: rounds and bound, or the
+ * refusal's number and 0. */
+static void housed(const char *name, size_t schedule_length, size_t house_length,
+                   uint64_t first, uint64_t second)
+{
+    static const uint8_t plan[] = {1, 0};
+    static const uint32_t anchor[] = {0}, schedule[] = {300, 200}, own[] = {700, 600, 700, 100};
+    uint32_t route[1], log[1], work[SECONDCOOP_WORK_WORDS(1, 0)];
+    uint64_t wide[SECONDCOOP_WIDE_NUMBERS(1)], figures[SECONDCOOP_PLAN_FIGURES];
+    secondcoop_plan(plan, sizeof plan, 0, 0, 0, anchor, 1, anchor, 0, 0,
+                    schedule, schedule_length, own, house_length, 9, route, 1, log, 1,
+                    work, sizeof work / sizeof work[0],
+                    wide, sizeof wide / sizeof wide[0], figures);
+    const int refused = figures[SECONDCOOP_PLAN_ENDING] == SECONDCOOP_REFUSED;
+    const uint64_t given[] = {
+        figures[refused ? SECONDCOOP_PLAN_REFUSAL : SECONDCOOP_PLAN_ROUNDS],
+        figures[refused ? SECONDCOOP_PLAN_POSITION : SECONDCOOP_PLAN_BOUND]};
+    expect(name, given, (const uint64_t[]){first, second}, 2);
+}
+
+static void calls_on_houses(void)
+{
+    housed("house", 0, 4, 2, 70000);
+    housed("a part of the house", 0, 2, 1, 420000);
+    housed("no house", 0, 0, SECONDCOOP_BAD_SCHEDULE, 0);
+    housed("odd house", 0, 3, SECONDCOOP_BAD_SCHEDULE, 0);
+    housed("schedule beside a house", 2, 4, 1, 60000);
+    housed("schedule beside no house", 2, 0, 1, 60000);
+    housed("schedule beside an odd house", 2, 3, 1, 60000);
+}
+
 static void plans(void)
 {
     uint64_t figures[SECONDCOOP_FIGURES];
@@ -83,15 +138,15 @@ static void names(void)
     secondcoop_check_plan(plan, 3, figures);
     wrong += figures[SECONDCOOP_REFUSAL] != SECONDCOOP_BAD_NUMBER;
     wrong += figures[SECONDCOOP_POSITION] != 3;
-    secondcoop_plan(plan, sizeof plan, 0, 2, 0, anchor, 3, anchor, 0, 0, schedule, 2, 9,
-                    route, 3, log, 1, work, sizeof work / sizeof work[0],
+    secondcoop_plan(plan, sizeof plan, 0, 2, 0, anchor, 3, anchor, 0, 0, schedule, 2,
+                    house, house_count, 9, route, 3, log, 1, work, sizeof work / sizeof work[0],
                     wide, sizeof wide / sizeof wide[0], figures);
     wrong += figures[SECONDCOOP_PLAN_ENDING] != SECONDCOOP_ROUTE;
     wrong += figures[SECONDCOOP_PLAN_COST] != 5 || figures[SECONDCOOP_PLAN_LENGTH] != 2;
     wrong += figures[SECONDCOOP_PLAN_ROUNDS] != 1 || figures[SECONDCOOP_PLAN_TURNS] != 1;
     wrong += figures[SECONDCOOP_PLAN_BOUND] != 60000;
-    secondcoop_plan(plan, 4, 0, 2, 0, anchor, 3, anchor, 0, 0, schedule, 2, 9,
-                    route, 3, log, 1, work, sizeof work / sizeof work[0],
+    secondcoop_plan(plan, 4, 0, 2, 0, anchor, 3, anchor, 0, 0, schedule, 2,
+                    house, house_count, 9, route, 3, log, 1, work, sizeof work / sizeof work[0],
                     wide, sizeof wide / sizeof wide[0], figures);
     wrong += figures[SECONDCOOP_PLAN_ENDING] != SECONDCOOP_REFUSED;
     wrong += figures[SECONDCOOP_PLAN_REFUSAL] != SECONDCOOP_BAD_NUMBER;
@@ -104,8 +159,8 @@ static void planner(void)
     static const uint8_t plan[] = {2, 0};
     uint32_t route[2] = {7, 7}, log[1] = {7}, work[7];
     uint64_t figures[SECONDCOOP_PLAN_FIGURES], wide[4];
-    secondcoop_plan(plan, sizeof plan, 0, 1, 0, anchor, 2, guides, 2, 1, guides, 0, 9,
-                    route, 2, log, 1, work, 7, wide, 4, figures);
+    secondcoop_plan(plan, sizeof plan, 0, 1, 0, anchor, 2, guides, 2, 1, guides, 0,
+                    house, house_count, 9, route, 2, log, 1, work, 7, wide, 4, figures);
     expect("plan", figures, (const uint64_t[]){SECONDCOOP_NO_ROUTE, 0, 0, 0, 0, 0, 1, 0}, 8);
     /* No lanes; the guide refuses place 0, since its key is too great, and the
      * anchor expands it. */
@@ -114,12 +169,12 @@ static void planner(void)
         wrong++;
     expect("wide memory", wide,
            (const uint64_t[]){0, 0, SECONDCOOP_UNREACHED, SECONDCOOP_UNREACHED}, 4);
-    secondcoop_plan(plan, sizeof plan, 0, 1, 0, anchor, 2, guides, 2, 1, guides, 0, 0,
-                    route, 2, log, 1, work, 7, wide, 4, figures);
+    secondcoop_plan(plan, sizeof plan, 0, 1, 0, anchor, 2, guides, 2, 1, guides, 0,
+                    house, house_count, 0, route, 2, log, 1, work, 7, wide, 4, figures);
     expect("plan without turns", figures,
            (const uint64_t[]){SECONDCOOP_UNFINISHED, 0, 0, 0, 0, 0, 0, 0}, 8);
-    secondcoop_plan(plan, sizeof plan, 0, 2, 0, anchor, 2, guides, 2, 1, guides, 0, 9,
-                    route, 2, log, 1, work, 7, wide, 4, figures);
+    secondcoop_plan(plan, sizeof plan, 0, 2, 0, anchor, 2, guides, 2, 1, guides, 0,
+                    house, house_count, 9, route, 2, log, 1, work, 7, wide, 4, figures);
     expect("plan refuses", figures,
            (const uint64_t[]){SECONDCOOP_REFUSED, 8, 0, 0, 0, 0, 0, 0}, 8);
 }
@@ -141,7 +196,7 @@ static void opinions(void)
     uint64_t figures[SECONDCOOP_PLAN_FIGURES], wide[4];
     for (size_t at = 0; at < sizeof calls / sizeof *calls; at++) {
         secondcoop_plan(plan, sizeof plan, 0, 1, 0, anchor, 2, calls[at].guides, 2, 1, anchor, 0,
-                        9, route, 2, log, 1, work, 7, wide, 4, figures);
+                        house, house_count, 9, route, 2, log, 1, work, 7, wide, 4, figures);
         expect("opinions", figures,
                (const uint64_t[]){SECONDCOOP_NO_ROUTE, 0, 0, 0, 0, 0, 1, 0}, 8);
         wrong += log[0] != calls[at].log;
@@ -171,7 +226,7 @@ static void barred(void)
     uint64_t wide[SECONDCOOP_WIDE_NUMBERS(3)], figures[SECONDCOOP_PLAN_FIGURES];
     for (size_t at = 0; at < sizeof calls / sizeof *calls; at++) {
         secondcoop_plan(plan, sizeof plan, 0, 2, calls[at].barred, anchor, 3, anchor, 0, 0,
-                        anchor, 0, 99, route, 3, log, 1,
+                        anchor, 0, house, house_count, 99, route, 3, log, 1,
                         work, sizeof work / sizeof work[0],
                         wide, sizeof wide / sizeof wide[0], figures);
         wrong += figures[SECONDCOOP_PLAN_ENDING] != calls[at].ending;
@@ -207,6 +262,7 @@ _Static_assert(SECONDCOOP_WORK_WORDS(1, 0) == 4, "work words");
 _Static_assert(SECONDCOOP_WORK_WORDS(4096, 32768) == 110593, "work words");
 _Static_assert(2 * SECONDCOOP_WIDE_NUMBERS(2 + 2) == 16, "wide numbers");
 _Static_assert(SECONDCOOP_WIDE_NUMBERS(4096) == 8192, "wide numbers");
+_Static_assert(SECONDCOOP_HOUSE_NUMBERS == 2 * SECONDCOOP_MAX_ROUNDS, "house numbers");
 _Static_assert(SECONDCOOP_UNREACHED == UINT64_MAX, "not reached");
 _Static_assert(SECONDCOOP_NO_OPINION == UINT32_MAX, "no opinion");
 _Static_assert(SECONDCOOP_CLASS(0) == 1 && SECONDCOOP_CLASS(7 - 1) == 64, "classes");
@@ -257,8 +313,8 @@ static void refused_call(const char *name, uint32_t goal, uint32_t barred, size_
     uint32_t route[4], log[1], work[SECONDCOOP_WORK_WORDS(4, 4)];
     uint64_t wide[SECONDCOOP_WIDE_NUMBERS(4)], figures[SECONDCOOP_PLAN_FIGURES];
     secondcoop_plan(plan_a, sizeof plan_a, 0, goal, barred, anchor, anchor_length, anchor, 0, 0,
-                    schedule, 2, 9, route, route_length, log, 1, work, work_length,
-                    wide, wide_length, figures);
+                    schedule, 2, house, house_count, 9, route, route_length, log, 1,
+                    work, work_length, wide, wide_length, figures);
     expect(name, figures,
            (const uint64_t[]){SECONDCOOP_REFUSED, number, position, 0, 0, 0, 0, 0}, 8);
 }
@@ -292,6 +348,8 @@ static void call_refusals(void)
 int main(void)
 {
     numbers();
+    houses();
+    calls_on_houses();
     plans();
     names();
     planner();

@@ -26,9 +26,13 @@ int main()
     static const uint32_t anchor[3] = {0, 0, 0};
     uint32_t route[3], log[1], work[SECONDCOOP_WORK_WORDS(3, 1)];
     uint64_t wide[SECONDCOOP_WIDE_NUMBERS(3)];
-    const uint32_t allowance = SECONDCOOP_TURNS(3, SECONDCOOP_HOUSE_ROUNDS);
+    const uint32_t allowance = SECONDCOOP_TURNS(3, SECONDCOOP_STANDARD_ROUNDS);
+    uint32_t house[SECONDCOOP_HOUSE_NUMBERS], count;
+    secondcoop_standard_house(house, &count);
+    wrong += count != 2 * SECONDCOOP_STANDARD_ROUNDS;
+    wrong += secondcoop_load_house(anchor, 2, house, &count) != SECONDCOOP_BAD_SCHEDULE;
     secondcoop_plan(plan, sizeof plan, 0, 2, SECONDCOOP_CLASS(6), anchor, 3, anchor, 0, 0,
-                    anchor, 0, allowance, route, 3, log, 1,
+                    anchor, 0, house, count, allowance, route, 3, log, 1,
                     work, sizeof work / sizeof work[0],
                     wide, sizeof wide / sizeof wide[0], figures);
     wrong += figures[SECONDCOOP_PLAN_ENDING] != SECONDCOOP_ROUTE;

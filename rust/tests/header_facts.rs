@@ -14,7 +14,7 @@ use secondcoop_tests::generate;
 use secondcoop_tests::guarded::GUARD;
 use secondcoop_tests::jobs::{self, Alley, Job};
 use secondcoop_tests::lead;
-use secondcoop_tests::planner::{self, Answer, HOUSE_SCHEDULE};
+use secondcoop_tests::planner::{self, Answer, MOST_FACTORS, STANDARD_SCHEDULE};
 use secondcoop_tests::planners::{self, Library};
 use secondcoop_tests::reference::{MOST_CLASS, MOST_COST, MOST_EDGES, MOST_VERTICES};
 
@@ -55,7 +55,8 @@ fn numbers_are_those_of_the_second_planner() {
         ("MAX_COST", u64::from(MOST_COST)),
         ("MAX_CLASS", u64::from(MOST_CLASS)),
         ("MAX_BARRED", u64::from(planner::MOST_BARRED)),
-        ("HOUSE_ROUNDS", HOUSE_SCHEDULE.len() as u64 / 2),
+        ("HOUSE_NUMBERS", MOST_FACTORS as u64),
+        ("STANDARD_ROUNDS", STANDARD_SCHEDULE.len() as u64 / 2),
         ("NONE", u64::from(planner::NONE)),
         ("NO_OPINION", u64::from(planner::NO_OPINION)),
         ("UNREACHED", planner::UNREACHED),
@@ -86,20 +87,26 @@ fn the_table_has_its_rows_in_order() {
     assert_eq!(rows, [1, 2, 3, 4, 6, 5, 15, 7, 8, 9, 10, 11, 12, 13, 14]);
 }
 
+/// The refusal of a call, or 0.
+fn refusal_of(job: &Job) -> u32 {
+    match planners::run(&Library, job, 0).answer() {
+        Answer::Refused { number, .. } => number,
+        _ => 0,
+    }
+}
+
+/// A job on one place, with so many guides.
+fn job(guides: u32, schedule: Vec<u32>) -> Job {
+    let plan = generate::Plan::without_edges(1);
+    let sheets = vec![0; guides as usize];
+    Job::new(&plan, 0, 0, vec![0], sheets, guides, schedule, 9)
+}
+
 /// What the limits let pass, and what is one more is refused.
 #[test]
 fn limits_of_a_call_are_exact() {
     let header = numbers();
     let number = |name: &str| header[name] as u32;
-    let refusal_of = |job: &Job| match planners::run(&Library, job, 0).answer() {
-        Answer::Refused { number, .. } => number,
-        _ => 0,
-    };
-    let job = |guides: u32, schedule: Vec<u32>| {
-        let plan = generate::Plan::without_edges(1);
-        let sheets = vec![0; guides as usize];
-        Job::new(&plan, 0, 0, vec![0], sheets, guides, schedule, 9)
-    };
     let refusal = |guides: u32, schedule: Vec<u32>| refusal_of(&job(guides, schedule));
     let (guides, rounds) = (number("MAX_GUIDES"), number("MAX_ROUNDS") as usize);
     assert_eq!([guides, guides + 1].map(|n| refusal(n, vec![])), [0, 9]);
@@ -124,6 +131,38 @@ fn limits_of_a_call_are_exact() {
         refusal_of(&Job::new(&plan, 0, 0, vec![0], vec![], 0, vec![], 9))
     });
     assert_eq!(costs, [0, 0, 0, 5]);
+}
+
+/// A default schedule, the header's house, has as many numbers as the most
+/// rounds, and the same limits where it is loaded and where a call takes it.
+#[test]
+fn limits_of_a_default_schedule_are_exact() {
+    let header = numbers();
+    let number = |name: &str| header[name] as u32;
+    let (most, rounds) = (number("HOUSE_NUMBERS"), number("MAX_ROUNDS"));
+    assert_eq!(most, 2 * rounds);
+    let (low, high) = (number("MIN_FACTOR"), number("MAX_FACTOR"));
+    for (factor, length, refusal) in [
+        (low, 0, 10),
+        (low, 1, 10),
+        (low, 2, 0),
+        (low, most, 0),
+        (low, most + 1, 10),
+        (low, most + 2, 10),
+        (low - 1, 2, 10),
+        (high, 2, 0),
+        (high + 1, 2, 10),
+    ] {
+        let mut job = job(0, vec![]);
+        job.default_schedule = vec![factor; length as usize];
+        let (mut default, mut count) = ([0; MOST_FACTORS], 0);
+        let loaded = ffi::load_default_schedule(&job.default_schedule, &mut default, &mut count);
+        assert_eq!(
+            [loaded, refusal_of(&job)],
+            [refusal; 2],
+            "{factor} {length}"
+        );
+    }
 }
 
 /// 2·V turns for the first round, 2·V times the rounds for all.
@@ -179,7 +218,7 @@ fn no_opinion_is_one_number() {
     assert_eq!(first_turn(no_opinion - 1, no_opinion), 0);
 }
 
-/// The header's figures for the house schedule: in each of its rounds a guide
+/// The header's figures for the standard house: in each of its rounds a guide
 /// expands a place of a blind alley at exactly so many times the cheapest
 /// chain, and none dearer by 1.
 #[test]
@@ -193,7 +232,7 @@ fn a_guide_goes_as_far_as_the_header_says() {
         .expect("its end");
     let figures = figures.replace(" and", ",");
     let hundredths: Vec<u32> = figures.split(", ").map(in_hundredths).collect();
-    assert_eq!(hundredths.len(), HOUSE_SCHEDULE.len() / 2);
+    assert_eq!(hundredths.len(), STANDARD_SCHEDULE.len() / 2);
     for (round, &hundredths) in hundredths.iter().enumerate() {
         for over in [0, 1] {
             // The cheapest chain costs 100.
@@ -203,7 +242,7 @@ fn a_guide_goes_as_far_as_the_header_says() {
                 steps: vec![hundredths + over],
                 dear: None,
                 number: planner::MOST_OPINION,
-                schedule: HOUSE_SCHEDULE[2 * round..2 * round + 2].to_vec(),
+                schedule: STANDARD_SCHEDULE[2 * round..2 * round + 2].to_vec(),
             };
             let (_, job) = alley.job();
             let turns = planners::run(&Library, &job, 0).turns();
@@ -259,7 +298,8 @@ fn a_table_of_zeros_passes() {
 fn several_threads_may_call() {
     let mut shared: Vec<Job> = Vec::new();
     jobs::valid_jobs(54, 300, &mut |_, job| shared.push(job.clone()));
-    // Every function: numbers, the plan read and written, the call, the text.
+    // Every function: numbers, the plan read and written, the default schedule,
+    // the call, the text.
     let all = |job: &Job| {
         let numbers = [
             ffi::read_plan_number(&job.bytes, 1),
@@ -274,8 +314,13 @@ fn several_threads_may_call() {
         assert_eq!(out, job.bytes);
         let number = ffi::write_plan_number(&mut out, 0, vertices as u32);
         let text = planners::run_text(&Library, &job.bench_bytes(), 5_000, 0);
+        let (mut default, mut count) = ([0; MOST_FACTORS], 0);
+        ffi::standard_schedule(&mut default, &mut count);
+        let loaded = ffi::load_default_schedule(&job.default_schedule, &mut default, &mut count);
+        let default = (loaded, default, count);
         let outcome = planners::run(&Library, job, 0);
-        (numbers, lists, [read, written, number], text, outcome)
+        let figures = [read, written, number];
+        (numbers, lists, figures, text, default, outcome)
     };
     let alone: Vec<_> = shared.iter().map(all).collect();
     thread::scope(|scope| {

@@ -80,22 +80,46 @@ fn returned(text: &str) -> String {
 }
 
 /// A parameter of an export as C has it: a slice is a pointer and a length,
-/// an array a pointer.
+/// an array or one number that is lent a pointer.
 fn in_c(name: &str, kind: &str) -> Vec<(String, String)> {
-    let (pointed, constant) = match kind.strip_prefix("&mut [") {
+    let (pointed, constant) = match kind.strip_prefix("&mut ") {
         Some(pointed) => (Some(pointed), ""),
-        None => (kind.strip_prefix("&["), "const "),
+        None => (kind.strip_prefix('&'), "const "),
     };
-    let Some(element) = pointed.and_then(|pointed| pointed.strip_suffix(']')) else {
+    let Some(pointed) = pointed else {
         return vec![(name.into(), c_number(kind).into())];
     };
     let pointer = |element| (name.into(), format!("{constant}{} *", c_number(element)));
-    match element.split_once("; ") {
-        Some((element, _)) => vec![pointer(element)],
-        None => vec![
+    let list = pointed
+        .strip_prefix('[')
+        .and_then(|list| list.strip_suffix(']'));
+    match list.map(|list| list.split_once("; ").ok_or(list)) {
+        None => vec![pointer(pointed)],
+        Some(Ok((element, _))) => vec![pointer(element)],
+        Some(Err(element)) => vec![
             pointer(element),
             (format!("{name}_length"), "size_t".into()),
         ],
+    }
+}
+
+#[test]
+fn parameters_are_as_c_has_them() {
+    for (kind, wanted) in [
+        ("u32", &[("x", "uint32_t")][..]),
+        ("&mut u32", &[("x", "uint32_t *")]),
+        ("&u64", &[("x", "const uint64_t *")]),
+        ("&[u8; 4]", &[("x", "const uint8_t *")]),
+        ("&mut [u32; 32]", &[("x", "uint32_t *")]),
+        (
+            "&[u32]",
+            &[("x", "const uint32_t *"), ("x_length", "size_t")],
+        ),
+        ("&mut [u64]", &[("x", "uint64_t *"), ("x_length", "size_t")]),
+    ] {
+        let parameters = in_c("x", kind);
+        let parameters = parameters.iter().map(|(name, kind)| (&name[..], &kind[..]));
+        assert!(parameters.eq(wanted.iter().copied()), "{kind}");
     }
 }
 
@@ -206,7 +230,7 @@ fn all_exported() -> Functions {
 #[test]
 fn three_places_say_the_same() {
     let exported = all_exported();
-    assert_eq!(exported.len(), 8);
+    assert_eq!(exported.len(), 10);
     let header = declared_in_c(&read("include/secondcoop.h"));
     assert_eq!(differences(&exported, &header), Vec::<String>::new());
     let rust = declared_in_rust(&read("rust/src/ffi.rs"));
@@ -265,6 +289,33 @@ fn a_change_in_the_header_is_found() {
         ),
     ];
     all_found(declared_in_c, &header, &changes);
+}
+
+/// The default schedule, which the interface calls a house, in all three.
+#[test]
+fn a_change_at_the_house_is_found() {
+    let header = [
+        (
+            "const uint32_t *house, size_t house_length,",
+            "const uint32_t *house,",
+        ),
+        ("const uint32_t *sheet", "uint32_t *sheet"),
+        ("uint32_t secondcoop_load", "void secondcoop_load"),
+        ("uint32_t *numbers, uint32_t *count", "uint32_t *numbers"),
+    ];
+    all_found(declared_in_c, &read("include/secondcoop.h"), &header);
+    let declarations = [
+        ("house: *const u32", "house: *mut u32"),
+        ("count: *mut u32", "count: *mut u64"),
+        (") -> u32;", ");"),
+    ];
+    all_found(declared_in_rust, &read("rust/src/ffi.rs"), &declarations);
+    let exports = [
+        ("count: &mut u32", "count: u32"),
+        ("house: &[u32]", "house: &mut [u32]"),
+        ("sheet: &[u32]", "sheet: &[u32; 32]"),
+    ];
+    all_found(exported, &read("crates/ffi_planner/src/lib.rt"), &exports);
 }
 
 #[test]
@@ -392,8 +443,8 @@ fn libraries_are_position_independent() {
     }
 }
 
-/// Each library exports the functions of its crate, needs `memset` at most,
-/// and has no symbol for data that can be written.
+/// Each library exports the functions of its crate, needs `memcpy` and
+/// `memset` at most, and has no symbol for data that can be written.
 #[test]
 fn libraries_are_as_the_header_says() {
     let mut needed = Vec::new();
@@ -425,5 +476,5 @@ fn libraries_are_as_the_header_says() {
     }
     needed.sort();
     needed.dedup();
-    assert_eq!(needed, ["memset"]);
+    assert_eq!(needed, ["memcpy", "memset"]);
 }

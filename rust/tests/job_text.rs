@@ -2,11 +2,12 @@
 //! line that is wrong.
 
 use secondcoop_tests::bench_text;
+use secondcoop_tests::default_schedule::DefaultSchedule;
 use secondcoop_tests::generate::push_number;
 use secondcoop_tests::jobs;
 use secondcoop_tests::planners::{is_refusal, kind_of_text, KINDS};
 use secondcoop_tests::random::Random;
-use secondcoop_tests::refusals::{remarks, Taker};
+use secondcoop_tests::refusals::{default_remarks, remarks, Remark, Taker};
 use secondcoop_tests::text::{begins, pairs, pairs_text, Begins, PlanLines, TextJob};
 
 /// Job A of the paper.
@@ -130,6 +131,97 @@ fn guides_without_opinions() {
     assert_eq!(without(&["- - - 4294967294", "- - - -"]), [2]);
 }
 
+/// Job A without rounds, on a sheet of these pairs.
+fn on_a_sheet(pairs: &[[u32; 2]]) -> String {
+    let line = |[w1, w2]: &[u32; 2]| format!("house {w1} {w2}\n");
+    let lines: String = pairs.iter().map(line).collect();
+    JOB_A.replace("round 200 200\nround 100 100\n", &lines)
+}
+
+/// The lines of a sheet are read in their order and printed; the bytes do not
+/// say them, and the planner call takes the job.
+#[test]
+fn the_lines_of_a_sheet() {
+    let text = on_a_sheet(&[[700, 600], [700, 100], [99, 4_294_967_295]]);
+    let job = TextJob::parse(&text).unwrap();
+    assert_eq!(format!("# Job A\n{job}"), text);
+    assert_eq!(job.default_line(), Some(11));
+    assert_eq!(Taker::of(&job), Taker::Call);
+    let lines = job.lines().unwrap();
+    let pairs: Vec<_> = lines
+        .default_schedule
+        .iter()
+        .map(|pair| (pair.number, pair.says))
+        .collect();
+    assert_eq!(
+        pairs,
+        [(11, [700, 600]), (12, [700, 100]), (13, [99, u32::MAX])]
+    );
+    let without = TextJob::parse(&on_a_sheet(&[])).unwrap();
+    assert_eq!(without.default_line(), None);
+    assert_eq!(Taker::of(&without), Taker::Bench);
+    assert_eq!(job.bytes(), without.bytes());
+    // They stand anywhere, beside rounds too.
+    let text = JOB_A.replace("# Job A\n", "house 700 600\n") + "house 100 100\n";
+    let job = TextJob::parse(&text).unwrap();
+    let printed = JOB_A.replace("anchor", "house 700 600\nhouse 100 100\nanchor");
+    assert_eq!(format!("# Job A\n{job}"), printed);
+}
+
+/// What is wrong with a sheet is told by its lines, and only where it is
+/// rejected.
+#[test]
+fn a_sheet_that_is_rejected_is_told() {
+    let words = |pairs: &[[u32; 2]]| {
+        let job = TextJob::parse(&on_a_sheet(pairs)).unwrap();
+        assert_eq!(remarks(&job, Taker::of(&job)), []);
+        let remarks: Vec<String> = default_remarks(&job)
+            .iter()
+            .map(Remark::to_string)
+            .collect();
+        remarks.join("; ")
+    };
+    assert_eq!(words(&[]), "");
+    assert_eq!(words(&[[100, 10_000]; 16]), "");
+    assert_eq!(
+        words(&[[100, 100]; 17]),
+        "line 27: there are 17 rounds, over 16 (refusal 10)"
+    );
+    assert_eq!(
+        words(&[[10_001, 99]]),
+        "line 11: W1 10001 is not from 100 to 10000 (refusal 10); line 11: W2 99 is not from 100 \
+         to 10000 (refusal 10)"
+    );
+    assert_eq!(
+        words(&[[300, 200], [200, 201], [201, 200]]),
+        "line 12: W2 rises from 200 to 201 (refusal 10); line 13: W1 rises from 200 to 201 \
+         (refusal 10)"
+    );
+}
+
+/// There are remarks on a sheet exactly where the second implementation
+/// rejects it.
+#[test]
+fn remarks_on_seeded_sheets() {
+    let mut random = Random::new(94);
+    let mut refusals = [0; 2];
+    for _ in 0..3_000 {
+        let sheet = match random.one_in(2) {
+            true => jobs::random_default(&mut random),
+            false => jobs::bad_default(&mut random),
+        };
+        let (pairs, rest) = sheet.as_chunks();
+        if pairs.is_empty() || !rest.is_empty() {
+            continue;
+        }
+        let refusal = DefaultSchedule::standard().load(&sheet);
+        let job = TextJob::parse(&on_a_sheet(pairs)).unwrap();
+        assert_eq!(default_remarks(&job).is_empty(), refusal == 0, "{job}");
+        refusals[usize::from(refusal > 0)] += 1;
+    }
+    assert!(refusals.iter().all(|&count| count > 500), "{refusals:?}");
+}
+
 /// Costs up to 16,000,000 stand in a lane's line, and are planned.
 #[test]
 fn costs_of_a_yard() {
@@ -212,7 +304,7 @@ fn pairs_are_read_and_printed() {
         let word = text.split(' ').next().unwrap();
         let words = format!(
             "line 1: '{word}' is neither the first word of a line (places, lane, start, goal, \
-             barred, allowance, round, anchor, guide) nor a hexadecimal pair such as 0E; pairs stand apart"
+             barred, allowance, round, house, anchor, guide) nor a hexadecimal pair such as 0E; pairs stand apart"
         );
         assert_eq!(begins(text), Begins::Neither(words), "{text}");
     }
@@ -316,7 +408,7 @@ fn a_line_that_bytes_cannot_say_is_told() {
             3,
             "lanes 0 1 1",
             "line 3: 'lanes' begins no line; a line is places, lane, start, goal, barred, \
-             allowance, round, anchor, guide",
+             allowance, round, house, anchor, guide",
         ),
         (
             3,
@@ -363,6 +455,17 @@ fn a_line_that_bytes_cannot_say_is_told() {
             "round 200",
             "line 11: 'round' takes 2 numbers, and 1 stands there",
         ),
+        (
+            11,
+            "house 200",
+            "line 11: 'house' takes 2 numbers, and 1 stands there",
+        ),
+        (
+            11,
+            "house 200 -",
+            "line 11: '-' means that a guide has no opinion; it stands in the line of a guide \
+             sheet alone",
+        ),
         (13, "", "there is no line 'anchor NUMBERS'"),
         (
             14,
@@ -400,6 +503,10 @@ fn a_line_that_bytes_cannot_say_is_told() {
     assert_eq!(
         wrong("bytes 0"),
         "line 1: '0' is not a hexadecimal pair from 00 to FF"
+    );
+    assert_eq!(
+        wrong("bytes 00\nhouse 200 200"),
+        "line 2: 'bytes' stands in place of all other lines"
     );
     assert_eq!(wrong(""), "there is no line 'places V'");
     // Where the plan's places are not known, tables are held to the anchor's.

@@ -3,7 +3,7 @@
 
 use secondcoop_tests::generate::{self, Plan};
 use secondcoop_tests::planner::{
-    Answer, Memory, Request, MOST_OPINION, NONE, NO_OPINION, UNREACHED,
+    Answer, Memory, Request, MOST_OPINION, NONE, NO_OPINION, STANDARD_SCHEDULE, UNREACHED,
 };
 use secondcoop_tests::planners::{Library, Planner, SecondPlanner};
 
@@ -37,6 +37,7 @@ const JOB_A: Request = Request {
     guides: &[0, 9, 0, 0],
     guide_count: 1,
     schedule: &[200, 200, 100, 100],
+    default_schedule: &STANDARD_SCHEDULE,
     budget: 100,
 };
 
@@ -100,6 +101,27 @@ fn job_a_word_for_word() {
             ];
             assert_eq!(lent.work, work);
             assert_eq!(lent.wide, [0, 0, 1, 1, 3, 3, 6, UNREACHED, 80, 80]);
+        }
+    });
+}
+
+/// Job A on its schedule as the default one, the paper's house schedule, is job
+/// A; beside its own schedule no default one is looked at.
+#[test]
+fn job_a_on_a_default_schedule() {
+    let words = |lent: Lent| (lent.route, lent.log, lent.work, lent.wide);
+    on_both(|planner| {
+        let (answer, lent) = job_a(planner, 100);
+        let expected = (answer, words(lent));
+        let (own, bad): (&[u32], &[u32]) = (JOB_A.schedule, &[100, 100, 101, 100]);
+        for (schedule, default_schedule) in [(&[][..], own), (own, &[]), (own, bad), (own, own)] {
+            let request = Request {
+                schedule,
+                default_schedule,
+                ..JOB_A
+            };
+            let (answer, lent) = plan(planner, &request);
+            assert_eq!((answer, words(lent)), expected);
         }
     });
 }
@@ -381,6 +403,7 @@ fn no_route() {
                 guides: &[],
                 guide_count: 0,
                 schedule: &[],
+                default_schedule: &STANDARD_SCHEDULE,
                 budget,
             };
             let (answer, lent) = plan(planner, &request);
@@ -398,11 +421,13 @@ fn no_route() {
 #[test]
 fn start_is_goal() {
     on_both(|planner| {
-        for (schedule, rounds, bound) in [
-            (&[][..], 6, 10_000),
-            (&[200, 150], 1, 30_000),
-            (&[200, 150, 200, 120], 2, 24_000),
-            (&[10_000; 32], 16, 100_000_000),
+        for (schedule, default_schedule, rounds, bound) in [
+            (&[][..], &STANDARD_SCHEDULE[..], 6, 10_000),
+            (&[200, 150], &[], 1, 30_000),
+            (&[200, 150, 200, 120], &STANDARD_SCHEDULE, 2, 24_000),
+            (&[10_000; 32], &[100, 100], 16, 100_000_000),
+            (&[], &[200, 150], 1, 30_000),
+            (&[], &[10_000; 32], 16, 100_000_000),
         ] {
             let request = Request {
                 start: 1,
@@ -411,6 +436,7 @@ fn start_is_goal() {
                 guides: &[9; 8],
                 guide_count: 2,
                 schedule,
+                default_schedule,
                 budget: 0,
                 ..JOB_A
             };
@@ -425,11 +451,8 @@ fn start_is_goal() {
             assert_eq!(answer, expected);
             assert_eq!(lent.route, [1, NONE, NONE, NONE, 77, 77]);
             assert_eq!(lent.log, [78; 6]);
-            assert_eq!(
-                lent.work[17..],
-                [NONE, 0, NONE, 4, NONE, 0, NONE, 0, 79, 79]
-            );
-            let u = UNREACHED;
+            let (n, u) = (NONE, UNREACHED);
+            assert_eq!(lent.work[17..], [n, 0, n, 4, n, 0, n, 0, 79, 79]);
             assert_eq!(lent.wide, [u, u, 0, u, u, u, u, u, 80, 80]);
         }
     });
@@ -563,6 +586,7 @@ fn refused_plan(planner: &dyn Planner, bytes: &[u8]) -> (u32, usize) {
         guides: &[],
         guide_count: 9,
         schedule: &[1],
+        default_schedule: &[],
         budget: 0,
     };
     refused(planner, &request, [0; 3])

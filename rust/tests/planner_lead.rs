@@ -426,8 +426,8 @@ fn alley([w1, w2]: [u32; 2], cheapest: u32, over: u32, later: bool) -> Alley {
     alley
 }
 
-/// Factors, with the cheapest cost that they are tried on: those of the house
-/// schedule, others, and the greatest.
+/// Factors, with the cheapest cost that they are tried on: those of the
+/// standard schedule, others, and the greatest.
 const TIGHT: [([u32; 2], u32); 9] = [
     ([500, 500], 4),
     ([300, 300], 40),
@@ -535,12 +535,13 @@ fn without_a_chain_there_is_no_lead() {
 /// first. Of the others some search another floor or reckon other keys
 /// (`NextClass`, `ClassOfCost`, `NarrowUnreached`, `NarrowKey`,
 /// `OpinionOfZero`), some do not let the anchor have the place of its least
-/// key (`AnchorMarksStay`, `OpinionForAnchor`). These jobs tell no others, and
+/// key (`AnchorMarksStay`, `OpinionForAnchor`), some take other factors
+/// (`DefaultPreferred`, `StandardForDefault`). These jobs tell no others, and
 /// most of them keep all turns on the lead: it does not matter to it what is
 /// handed over, whether a round finishes by < or by W1, which guide has the
 /// turn, whether a number is an opinion, and what else guides leave to the
 /// anchor. `Forgotten` has a job of its own below.
-const OFF_THE_LEAD: [Fault; 14] = [
+const OFF_THE_LEAD: [Fault; 16] = [
     Fault::AnchorMarksStay,
     Fault::NextClass,
     Fault::ClassOfCost,
@@ -555,16 +556,21 @@ const OFF_THE_LEAD: [Fault; 14] = [
     Fault::GuideByGoal,
     Fault::AnchorLowest,
     Fault::FinishLate,
+    Fault::DefaultPreferred,
+    Fault::StandardForDefault,
 ];
 
 /// Jobs that are enough to find a fault.
 const ENOUGH: usize = 3;
 
-/// Whether a faulty planner lets a turn of a job off its lead.
+/// Whether a faulty planner lets a turn of a job off its lead. A turn in a
+/// round more than the job has is on none.
 fn is_off_the_lead(fault: Fault, job: &Job, cheapest: u64) -> bool {
     let (_, events) = job.faulty_events(fault);
-    let turns = lead::of_events(job, &events);
-    !turns.iter().all(|turn| turn.share(cheapest).is_kept())
+    let rounds = job.factors().len() as u32 / 2;
+    let is_more = |event: &Event| matches!(*event, Event::Turn { round, .. } if round > rounds);
+    let kept = |turn: &Turn| turn.share(cheapest).is_kept();
+    events.iter().any(is_more) || !lead::of_events(job, &events).iter().all(kept)
 }
 
 /// Seeded jobs with a chain, and its cost. Long paths take longer: last.

@@ -88,10 +88,15 @@ fn every_budget_is_spent_alike() {
 #[test]
 fn damaged_jobs_are_refused_alike() {
     let mut comparison = Comparison::new(&Library, &SecondPlanner);
+    let mut by_default = 0;
     jobs::damaged_jobs(seed(73), 28_000, &mut |job, known| {
         comparison.job(job, Some(known));
+        let ten = matches!(known, Answer::Refused { number: 10, .. });
+        by_default += u64::from(ten && job.schedule.is_empty());
     });
     comparison.report("damaged_jobs_are_refused_alike");
+    println!("  refusal 10 for the default schedule: {by_default}");
+    assert!(by_default >= 500, "{by_default} jobs");
     let each = jobs::CALL_REFUSALS.map(|number| (number as usize, 800));
     met(&comparison.job_kinds, &each);
 }

@@ -762,9 +762,10 @@ fn each_fault_of_the_search_is_found() {
         let (differing, jobs) = seeded.differing_jobs(&planner);
         println!("{fault:?}: {differing} in {jobs} jobs");
         assert_eq!(differing, ENOUGH, "{fault:?} in {jobs} jobs");
-        // Work memory alone shows some of them, or almost alone, and no bench
-        // job has costs beyond 32 bits, without which a later round is
-        // finished before a guide would expand a vertex at so great a number.
+        // Work memory alone shows some of them, or almost alone; no bench job
+        // has costs beyond 32 bits, without which a later round is finished
+        // before a guide would expand a vertex at so great a number; and bench
+        // jobs have the standard schedule for their default one.
         if !matches!(
             fault,
             Fault::Forgotten
@@ -776,6 +777,10 @@ fn each_fault_of_the_search_is_found() {
                 | Fault::NarrowTrace
                 | Fault::NarrowKey
                 | Fault::OpinionInFirstRound
+                | Fault::DefaultUntested
+                | Fault::DefaultTestedBeside
+                | Fault::StandardForDefault
+                | Fault::StandardForEmpty
         ) {
             let (differing, texts) = seeded.differing_texts(&planner);
             println!("{fault:?}: {differing} in {texts} texts");

@@ -8,7 +8,7 @@ use secondcoop_tests::dijkstra::{self, NO_BAR};
 use secondcoop_tests::generate::Plan;
 use secondcoop_tests::guarded::GUARD;
 use secondcoop_tests::jobs::{self, Job};
-use secondcoop_tests::planner::{Answer, HOUSE_SCHEDULE, MOST_OPINION, NO_OPINION, UNREACHED};
+use secondcoop_tests::planner::{Answer, MOST_OPINION, NO_OPINION, STANDARD_SCHEDULE, UNREACHED};
 use secondcoop_tests::planners::{
     self, Comparison, Lent, Library, Outcome, Planner, SecondPlanner,
 };
@@ -54,10 +54,10 @@ fn path_with_gates() -> Plan {
 }
 
 /// A job from the first vertex to a goal with a table of zeros as its anchor,
-/// on the house schedule and with turns enough.
+/// on the standard schedule and with turns enough.
 fn job(plan: &Plan, goal: u32, sheets: &[Vec<u32>]) -> Job {
     let anchor = vec![0; VERTICES as usize];
-    let schedule = HOUSE_SCHEDULE.to_vec();
+    let schedule = STANDARD_SCHEDULE.to_vec();
     let (guides, count) = (sheets.concat(), sheets.len() as u32);
     Job::new(plan, 0, goal, anchor, guides, count, schedule, u32::MAX)
 }
@@ -186,14 +186,14 @@ fn costs_by_gates() -> Vec<u64> {
 
 /// A guide without opinion on the gates keeps off them at every W1, in later
 /// rounds too; at the greatest number it goes through one in the first round
-/// of the house schedule.
+/// of the standard schedule.
 #[test]
 fn no_opinion_keeps_off_at_every_factor() {
     let plan = path_with_gates();
     let costs = costs_by_gates();
     assert_eq!(kept_costs(&plan, &gated_job(&plan, NO_OPINION)), costs);
     let first = Job {
-        schedule: HOUSE_SCHEDULE[..2].to_vec(),
+        schedule: STANDARD_SCHEDULE[..2].to_vec(),
         ..gated_job(&plan, MOST_OPINION)
     };
     assert!(kept_costs(&plan, &first)[0] < costs[0]);

@@ -2,6 +2,7 @@
 //! limits, the planner call beyond them, and what is said of a refusal.
 
 use secondcoop_tests::bench_text::{answer_text, MOST_BENCH_EDGES, MOST_BENCH_VERTICES};
+use secondcoop_tests::default_schedule::DefaultSchedule;
 use secondcoop_tests::generate;
 use secondcoop_tests::guarded::GUARD;
 use secondcoop_tests::input::Input;
@@ -170,6 +171,47 @@ fn refusals_of_a_call() {
             _ => assert!(count > 10, "kind {kind}: {count}"),
         }
     }
+}
+
+/// A job's text with lines of a word and pairs of factors in front.
+fn with_pairs(text: &str, word: &str, factors: &[u32]) -> TextJob {
+    let line = |pair: &[u32]| format!("{word} {} {}\n", pair[0], pair[1]);
+    let lines: String = factors.chunks_exact(2).map(line).collect();
+    TextJob::parse(&format!("{lines}{text}")).expect("a text form")
+}
+
+/// On a sheet that is accepted a job without rounds is the job with its pairs
+/// as rounds; on one that is rejected, and beside rounds, it is the job
+/// without the sheet.
+#[test]
+fn jobs_with_a_sheet() {
+    let mut random = Random::new(79);
+    let mut counts = [0; 3];
+    jobs::bench_jobs(80, 600, &mut |bytes, _| {
+        let text = TextJob::of_bytes(bytes);
+        let Ok(lines) = text.lines() else {
+            return;
+        };
+        let (own, text) = (!lines.rounds.is_empty(), text.to_string());
+        let mut sheet = match random.one_in(3) {
+            true => jobs::bad_default(&mut random),
+            false => jobs::random_default(&mut random),
+        };
+        sheet.resize(sheet.len().next_multiple_of(2).max(2), 99);
+        let job = with_pairs(&text, "house", &sheet);
+        let (_, refusal) = run::loaded_default(&Library, &job);
+        let printed = run::run(&Library, &job);
+        assert_eq!(printed, run::run(&SecondPlanner, &job), "{job}");
+        let other = match own || refusal > 0 {
+            true => with_pairs(&text, "round", &[]),
+            false => with_pairs(&text, "round", &sheet),
+        };
+        assert_eq!(printed, run::call(&Library, &other), "{job}");
+        remarks_agree(&job, Taker::Call, &printed);
+        assert_eq!(refusal, DefaultSchedule::standard().load(&sheet));
+        counts[if own { 2 } else { usize::from(refusal > 0) }] += 1;
+    });
+    assert!(counts.iter().all(|&count| count > 30), "{counts:?}");
 }
 
 /// Bytes that hold no call: cut off, or with a number of bad form.

@@ -121,11 +121,35 @@ static void read_plan(int variant)
     expect(figures[SECONDCOOP_REFUSAL], variant ? SECONDCOOP_SHORT_MEMORY : 0);
 }
 
+static uint32_t house[SECONDCOOP_HOUSE_NUMBERS], house_count;
+
+static void standard_house(int variant)
+{
+    (void)variant;
+    secondcoop_standard_house(house, &house_count);
+    expect(house_count, 2 * SECONDCOOP_STANDARD_ROUNDS);
+}
+
+/* The longest sheet; refused for its length, and for its last number. */
+static void load_house(int variant)
+{
+    const uint32_t last = schedule[2 * SECONDCOOP_MAX_ROUNDS - 1];
+    if (variant == 2)
+        schedule[2 * SECONDCOOP_MAX_ROUNDS - 1] = 0;
+    const uint32_t refusal =
+        secondcoop_load_house(schedule, 2 * SECONDCOOP_MAX_ROUNDS - (variant == 1 ? 1 : 0),
+                              house, &house_count);
+    expect(refusal, variant ? SECONDCOOP_BAD_SCHEDULE : SECONDCOOP_NOT_REFUSED);
+    expect(house_count, 2 * SECONDCOOP_MAX_ROUNDS);
+    schedule[2 * SECONDCOOP_MAX_ROUNDS - 1] = last;
+}
+
 /* A route over the floor; sixteen rounds that finish at once; no route, since
  * the bytes are those of a plan without lanes; unfinished at once and after
  * some turns; refusals 1, 8, 9, 10, 11, 12, 13; a route with one class barred,
- * and no route with all; refusal 11 for each kind of work memory. */
-enum { PLAN_CALLS = 16 };
+ * and no route with all; refusal 11 for each kind of work memory; a route on a
+ * house of sixteen rounds, and refusal 10 for a house. */
+enum { PLAN_CALLS = 18 };
 
 static void plan_call(int variant)
 {
@@ -135,7 +159,8 @@ static void plan_call(int variant)
         SECONDCOOP_UNFINISHED, SECONDCOOP_UNFINISHED, SECONDCOOP_REFUSED,
         SECONDCOOP_REFUSED, SECONDCOOP_REFUSED, SECONDCOOP_REFUSED,
         SECONDCOOP_REFUSED, SECONDCOOP_REFUSED, SECONDCOOP_REFUSED,
-        SECONDCOOP_ROUTE, SECONDCOOP_NO_ROUTE, SECONDCOOP_REFUSED, SECONDCOOP_REFUSED};
+        SECONDCOOP_ROUTE, SECONDCOOP_NO_ROUTE, SECONDCOOP_REFUSED, SECONDCOOP_REFUSED,
+        SECONDCOOP_ROUTE, SECONDCOOP_REFUSED};
     const uint32_t goal = variant == 1 ? 0 : variant == 6 ? PLACES : PLACES - 1;
     const uint32_t barred = variant == 12   ? SECONDCOOP_CLASS(5)
                             : variant == 13 ? SECONDCOOP_MAX_BARRED
@@ -147,13 +172,14 @@ static void plan_call(int variant)
     secondcoop_plan(variant == 2 ? no_lanes : plan,
                     variant == 2 ? sizeof no_lanes : plan_length - (variant == 5 ? 1 : 0),
                     0, goal, barred, tables, PLACES, tables + PLACES, 8 * PLACES,
-                    variant == 7 ? 9 : 8, schedule, 2 * SECONDCOOP_MAX_ROUNDS, budget,
+                    variant == 7 ? 9 : 8, schedule, variant < 16 ? 2 * SECONDCOOP_MAX_ROUNDS : 0,
+                    house, house_count - (variant == 17 ? 1 : 0), budget,
                     route, PLACES - (variant == 9 ? 1 : 0),
                     log_words, sizeof log_words / sizeof *log_words,
                     work, sizeof work / sizeof *work - (variant == 14 ? 1 : 0),
                     wide, sizeof wide / sizeof *wide - (variant == 15 ? 1 : 0), figures);
     expect(figures[SECONDCOOP_PLAN_ENDING], endings[variant]);
-    if (variant < 2)
+    if (variant < 2 || variant == 16)
         expect(figures[SECONDCOOP_PLAN_ROUNDS], SECONDCOOP_MAX_ROUNDS);
 }
 
@@ -201,6 +227,8 @@ int main(int count, char **arguments)
         {"write_plan", write_plan, 2, SECONDCOOP_STACK},
         {"check_plan", check_plan, 2, SECONDCOOP_STACK},
         {"read_plan", read_plan, 2, SECONDCOOP_STACK},
+        {"standard_house", standard_house, 1, SECONDCOOP_STACK},
+        {"load_house", load_house, 3, SECONDCOOP_HOUSE_STACK},
         {"plan", plan_call, PLAN_CALLS, SECONDCOOP_PLAN_STACK},
         {"bench_text", bench_text, TEXTS, SECONDCOOP_TEXT_STACK},
     };

@@ -111,7 +111,7 @@ fn a_comment_in_latin_1_is_a_comment() {
     // Outside a comment its line is told.
     let text = [b"places 4\nl\xE4ne 0 1 1".as_slice()].concat();
     let words = "standard input: line 2: 'l\u{e4}ne' begins no line; a line is places, lane, \
-                 start, goal, barred, allowance, round, anchor, guide\n";
+                 start, goal, barred, allowance, round, house, anchor, guide\n";
     assert_eq!(job(&["check"], text), left(4, "", words));
 }
 
@@ -133,7 +133,7 @@ fn a_wrong_pair_is_told() {
     ] {
         let words = format!(
             "standard input: line 2: '{word}' is neither the first word of a line (places, lane, \
-             start, goal, barred, allowance, round, anchor, guide) nor a hexadecimal pair such as 0E; \
+             start, goal, barred, allowance, round, house, anchor, guide) nor a hexadecimal pair such as 0E; \
              pairs stand apart\n"
         );
         let text = format!("# a comment\n{word} 04 places\n");
@@ -662,6 +662,129 @@ fn the_lead_of_other_endings() {
     let help = job(&["--help"], "").out;
     assert!(help.contains("Turns and rounds\nare the proved library's; "));
     assert!(help.contains("tested and not proved.\n"), "{help}");
+}
+
+/// The cold store's job on a sheet that is rejected.
+fn on_a_bad_sheet() -> String {
+    with("cold-store.txt", "house 150 150", "house 170 99")
+}
+
+/// A rejected sheet is told by its line, and the job is planned on our six
+/// rounds: the wall's turns.
+#[test]
+fn a_rejected_sheet_leaves_our_six_rounds() {
+    let words = "line 84: W1 rises from 160 to 170 (refusal 10)\n\
+                 line 84: W2 99 is not from 100 to 10000 (refusal 10)\n\
+                 the sheet for the house schedule is rejected (refusal 10): it stays what it was, \
+                 our six rounds\n";
+    for command in ["run", "print"] {
+        let printed = job(&[command], on_a_bad_sheet());
+        assert_eq!(printed, left(0, &read("wall.out"), words));
+    }
+    let lead = job(&["lead"], on_a_bad_sheet());
+    let wall = job(&["lead"], read("wall.txt"));
+    assert_eq!(lead, left(0, &wall.out, words));
+    let summary = "nothing else is wrong: 24 places, 62 lanes, 1 guide, the house schedule of 6 \
+                   rounds; not one for the bench program, which takes our own house schedule \
+                   alone, 'job run' plans it\n";
+    let check = job(&["check"], on_a_bad_sheet());
+    assert_eq!(check, left(3, &format!("{words}{summary}"), ""));
+}
+
+/// Beside a rejected sheet a job's own faults are told too.
+#[test]
+fn a_rejected_sheet_beside_other_faults() {
+    let text = on_a_bad_sheet().replace("goal 11", "goal 24");
+    let rejected = "the sheet for the house schedule is rejected (refusal 10): ";
+    let goal = "line 77: goal 24 is not a place; places are 0 to 23 (refusal 8)\n";
+    let run = job(&["run"], &text);
+    assert_eq!((run.status, run.out.as_str()), (3, "refused 8 at 0\n"));
+    assert!(
+        run.err.contains(rejected) && run.err.ends_with(goal),
+        "{}",
+        run.err
+    );
+    let check = job(&["check"], &text);
+    let end = format!("{goal}'job run' prints: refused 8 at 0\n");
+    assert!(
+        check.out.contains(rejected) && check.out.ends_with(&end),
+        "{}",
+        check.out
+    );
+}
+
+/// The site's own rounds, and rounds of the job's own beside them.
+#[test]
+fn check_says_whose_rounds_a_job_has() {
+    let beyond = "; not one for the bench program, which takes our own house schedule alone, 'job \
+                  run' plans it\n";
+    let own = with(
+        "cold-store.txt",
+        "allowance 1000",
+        "allowance 1000\nround 120 120",
+    );
+    let one = read("wall.txt") + "house 120 120\n";
+    for (text, rounds) in [
+        (
+            read("cold-store.txt"),
+            "the site's house schedule of 9 rounds",
+        ),
+        (one, "the site's house schedule of 1 round"),
+        (
+            own.clone(),
+            "1 round of its own, beside which no house schedule is looked at",
+        ),
+    ] {
+        let words = format!("nothing is wrong: 24 places, 62 lanes, 1 guide, {rounds}{beyond}");
+        assert_eq!(job(&["check"], text), left(0, &words, ""));
+    }
+    let without = with(
+        "wall.txt",
+        "allowance 1000",
+        "allowance 1000\nround 120 120",
+    );
+    for command in ["run", "print", "lead"] {
+        assert_eq!(job(&[command], &own), job(&[command], &without));
+    }
+}
+
+/// The bytes of a job cannot say a sheet: nothing is done, and what to do
+/// instead is said.
+#[test]
+fn bytes_cannot_say_a_sheet() {
+    let own = with(
+        "cold-store.txt",
+        "allowance 1000",
+        "allowance 1000\nround 120 120",
+    );
+    let (give, leave) = (
+        "give its pairs as 'round' lines",
+        "leave the 'house' lines out, which the job does not take",
+    );
+    for (text, line, instead) in [
+        (read("cold-store.txt"), 81, give),
+        (on_a_bad_sheet(), 81, leave),
+        (own, 82, leave),
+    ] {
+        let words = format!(
+            "standard input: line {line}: a job's bytes cannot say a house schedule; {instead}\n"
+        );
+        for command in ["bytes", "hex"] {
+            assert_eq!(job(&[command], &text), left(4, "", &words));
+        }
+        let printed = job(&["text"], &text);
+        assert_eq!(printed.out.matches("house ").count(), 9);
+        let end = "the job is not one for the bench program, which takes our own house schedule \
+                   alone; 'job run' takes it\n";
+        assert!(
+            printed.status == 0 && printed.err.ends_with(end),
+            "{}",
+            printed.err
+        );
+    }
+    // As rounds the pairs are planned alike.
+    let rounds = read("cold-store.txt").replace("house ", "round ");
+    assert_eq!(job(&["run"], rounds), left(0, &read("cold-store.out"), ""));
 }
 
 /// By text and by bytes.

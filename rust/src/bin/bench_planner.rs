@@ -64,7 +64,7 @@ enum Sheets {
     Halved,
 }
 
-/// A job across a floor: eight guides, the house schedule, an anchor table
+/// A job across a floor: eight guides, the standard schedule, an anchor table
 /// of 60 hundredths of the true distances, and turns without end.
 fn job(seed: u64, width: u32, height: u32, sheets: Sheets) -> Job {
     let mut random = Random::new(seed);
@@ -213,7 +213,7 @@ fn compare_text(name: &str, job: &Job) {
 
 fn main() {
     println!(
-        "Whole calls on floors with eight edges at each vertex, eight guides, house schedule, \
+        "Whole calls on floors with eight edges at each vertex, eight guides, standard schedule, \
          nothing barred but in the last rows, which bar the class of one edge in twenty; halved \
          sheets are sensible ones without opinion on every second vertex or so: \
          processor time, medians of {RUNS} alternating runs in the same memory, library / second \

@@ -8,12 +8,13 @@ use std::process::ExitCode;
 
 use secondcoop_tests::input::{name_of, Input};
 use secondcoop_tests::lead;
-use secondcoop_tests::planner::HOUSE_SCHEDULE;
-use secondcoop_tests::planners::{self, Library, Planner, SecondPlanner};
+use secondcoop_tests::planners::{self, Library, Loader, Planner, SecondPlanner};
 use secondcoop_tests::reference::LAST_REFUSAL;
-use secondcoop_tests::refusals::{position_words, refusal_words, remarks, Taker};
+use secondcoop_tests::refusals::{
+    beyond_bench, default_remarks, position_words, refusal_words, remarks, Remark, Taker,
+};
 use secondcoop_tests::run;
-use secondcoop_tests::text::{pairs_text, Line, TextJob};
+use secondcoop_tests::text::{pairs_text, JobLines, Line, TextJob};
 use secondcoop_tests::tool::{self, Done, NOTHING_DONE, NO_ROUTE, REFUSED, UNFINISHED};
 use secondcoop_tests::words::{barred_words, classes_of, count, opinion_words, quoted};
 
@@ -33,6 +34,10 @@ where nobody types.
 In a text the word - in the line of a guide sheet stands where that guide has no opinion on the
 place, which is the number 4294967295 there; it never expands such a place, and a turn for which
 it has no place goes to the anchor. The anchor table has a number for every place.
+The lines 'house W1 W2' of a text are the site's sheet for its own house schedule, by which a job
+without 'round' lines is planned. The sheet is loaded first; where it is rejected (refusal 10),
+that is said, and the house schedule stays what it was: our six rounds, as where no sheet stands.
+A job's bytes cannot say a sheet, and the bench program takes our six rounds.
 The lead: a guide expands a place only if its key, cost + w1 * number, is at most w1 * w2 times the
 cost of the cheapest chain, and the anchor only if it is at most w1 times that. Turns and rounds
 are the proved library's; the places' costs in each turn and the cheapest chain are reckoned by
@@ -40,16 +45,37 @@ code that is tested and not proved.
 The bench program takes up to 256 places, 2048 lanes and 32768 bytes; run, check, print and lead
 take what the planner call takes, up to 4096 places and 32768 lanes.
 Exit status: 0 a route, or done; 1 no route; 2 unfinished; 3 refused, with the reason in plain
-words; 4 nothing was done: wrong use, a file or a line that cannot be read or said in bytes, or
-output that cannot be written.
+words, and check on a sheet that is rejected; 4 nothing was done: wrong use, a file or a line that
+cannot be read or said in bytes, or output that cannot be written.
 ";
 
 /// Remarks of one refusal that are said; more of them are counted.
 const MOST_REMARKS: usize = 8;
 
-/// A job, and whether it was read from bytes.
+/// Remarks as lines.
+fn listed(remarks: &[Remark]) -> String {
+    let mut text = String::new();
+    let mut counts = BTreeMap::new();
+    for remark in remarks {
+        let seen = counts.entry(remark.refusal).or_insert(0);
+        *seen += 1;
+        if *seen <= MOST_REMARKS {
+            text += &format!("{remark}\n");
+        }
+    }
+    for (refusal, seen) in counts {
+        if seen > MOST_REMARKS {
+            let more = count(seen - MOST_REMARKS, "more such line");
+            text += &format!("and {more} (refusal {refusal})\n");
+        }
+    }
+    text
+}
+
+/// A job, what its file is called, and whether it was read from bytes.
 struct Read {
     job: TextJob,
+    name: String,
     from_bytes: bool,
 }
 
@@ -63,30 +89,21 @@ impl Read {
                 (TextJob::of_bytes(&bytes).to_string(), true)
             }
         };
+        let name = name_of(path);
         match TextJob::parse(&text) {
-            Ok(job) => Ok(Read { job, from_bytes }),
-            Err(wrong) => Err(format!("{}: {wrong}", name_of(path))),
+            Ok(job) => Ok(Read {
+                job,
+                name,
+                from_bytes,
+            }),
+            Err(wrong) => Err(format!("{name}: {wrong}")),
         }
     }
 
     /// What is wrong with the job, a line for each fault.
     fn faults(&self, taker: Taker) -> String {
         let remarks = remarks(&self.job, taker);
-        let mut text = String::new();
-        let mut counts = BTreeMap::new();
-        for remark in &remarks {
-            let seen = counts.entry(remark.refusal).or_insert(0);
-            *seen += 1;
-            if *seen <= MOST_REMARKS {
-                text += &format!("{remark}\n");
-            }
-        }
-        for (refusal, seen) in counts {
-            if seen > MOST_REMARKS {
-                let more = count(seen - MOST_REMARKS, "more such line");
-                text += &format!("and {more} (refusal {refusal})\n");
-            }
-        }
+        let mut text = listed(&remarks);
         if self.from_bytes && !remarks.is_empty() {
             text += match remarks.iter().any(|remark| remark.line > 0) {
                 true => "(read as a job's bytes; the lines are those that 'job text' prints)\n",
@@ -96,12 +113,34 @@ impl Read {
         text
     }
 
+    /// Why the sheet for the default schedule is rejected, and what then is in
+    /// force; nothing where it is loaded or there is none.
+    fn rejection(&self, loader: &dyn Loader) -> String {
+        let (_, refusal) = run::loaded_default(loader, &self.job);
+        if refusal == 0 {
+            return String::new();
+        }
+        let lines = listed(&default_remarks(&self.job));
+        format!(
+            "{lines}the sheet for the house schedule is rejected (refusal {refusal}): it stays \
+             what it was, our six rounds\n"
+        )
+    }
+
     /// The faults, or that there are none and what the job has.
     fn check(&self) -> Done {
         let taker = Taker::of(&self.job);
-        let faults = self.faults(taker);
+        let (rejection, faults) = (self.rejection(&Library), self.faults(taker));
         if faults.is_empty() {
-            return Done::well(self.summary(taker));
+            let (nothing, status) = match rejection.is_empty() {
+                true => ("nothing is wrong", 0),
+                false => ("nothing else is wrong", REFUSED),
+            };
+            let summary = self.summary(taker);
+            return Done {
+                status,
+                ..Done::well(format!("{rejection}{nothing}: {summary}"))
+            };
         }
         let printed = run::run(&Library, &self.job);
         let who = match taker {
@@ -110,20 +149,33 @@ impl Read {
         };
         Done {
             status: REFUSED,
-            ..Done::well(format!("{faults}{who} prints: {printed}"))
+            ..Done::well(format!("{rejection}{faults}{who} prints: {printed}"))
+        }
+    }
+
+    /// The rounds of the job, and whose they are.
+    fn rounds(&self, lines: &JobLines) -> String {
+        let (default_schedule, refusal) = run::loaded_default(&Library, &self.job);
+        let rounds = count(default_schedule.in_force().len() / 2, "round");
+        let sheet = !lines.default_schedule.is_empty();
+        match lines.rounds.len() {
+            0 if sheet && refusal == 0 => format!("the site's house schedule of {rounds}"),
+            0 => format!("the house schedule of {rounds}"),
+            own if sheet => format!(
+                "{} of its own, beside which no house schedule is looked at",
+                count(own, "round")
+            ),
+            own => count(own, "round"),
         }
     }
 
     fn summary(&self, taker: Taker) -> String {
         let lines = self.job.lines().expect("a job without faults has lines");
         let plan = lines.plan.lines().expect("its plan too");
-        let rounds = match lines.rounds.len() {
-            0 => format!("the house schedule of {} rounds", HOUSE_SCHEDULE.len() / 2),
-            rounds => count(rounds, "round"),
-        };
-        let size = match taker {
-            Taker::Bench => "",
-            Taker::Call => "; too large for the bench program, 'job run' plans it",
+        let rounds = self.rounds(&lines);
+        let beyond = match taker {
+            Taker::Bench => String::new(),
+            Taker::Call => format!("; {}, 'job run' plans it", beyond_bench(&self.job)),
         };
         let barred = lines.barred.says;
         let is_barred = |lane: &&Line<[u32; 4]>| classes_of(barred).contains(&lane.says[3]);
@@ -131,15 +183,15 @@ impl Read {
         let places = plan.places.says as usize;
         let opinions = opinion_words(&lines.tables.without_opinions(places));
         format!(
-            "nothing is wrong: {}, {}, {}, {rounds}{barred}{opinions}{size}\n",
+            "{}, {}, {}, {rounds}{barred}{opinions}{beyond}\n",
             count(places, "place"),
             count(plan.lanes.len(), "lane"),
             count(lines.tables.guide_count().says, "guide"),
         )
     }
 
-    /// What a planner prints for the job.
-    fn run(&self, planner: &dyn Planner) -> Done {
+    /// What a planner prints for the job, its sheet loaded.
+    fn run(&self, planner: &(impl Planner + Loader)) -> Done {
         let printed = run::run(planner, &self.job);
         let status = match planners::kind_of_text(&printed) {
             planners::ROUTE => 0,
@@ -149,7 +201,7 @@ impl Read {
         };
         Done {
             output: printed.into_bytes(),
-            errors: self.faults(Taker::of(&self.job)),
+            errors: self.rejection(planner) + &self.faults(Taker::of(&self.job)),
             status,
         }
     }
@@ -160,7 +212,7 @@ impl Read {
         if done.status == REFUSED {
             return done;
         }
-        let job = run::asked(&self.job).expect("a job that is planned");
+        let job = run::asked(&Library, &self.job).expect("a job that is planned");
         Done {
             output: lead::text(&Library, &job).into_bytes(),
             ..done
@@ -171,14 +223,32 @@ impl Read {
     /// with it is said beside.
     fn form(&self, output: impl Into<Vec<u8>>) -> Done {
         let taker = Taker::of(&self.job);
-        let size = match taker {
-            Taker::Bench => "",
-            Taker::Call => "the job is too large for the bench program; 'job run' takes it\n",
+        let beyond = match taker {
+            Taker::Bench => String::new(),
+            Taker::Call => format!(
+                "the job is {}; 'job run' takes it\n",
+                beyond_bench(&self.job)
+            ),
         };
         Done {
-            errors: self.faults(taker) + size,
+            errors: self.rejection(&Library) + &self.faults(taker) + &beyond,
             ..Done::well(output)
         }
+    }
+
+    /// The job's bytes in some form. They cannot say a default schedule: what
+    /// to do instead is said.
+    fn bytes(&self, form: impl Fn(Vec<u8>) -> Vec<u8>) -> Done {
+        let Some(line) = self.job.default_line() else {
+            return self.form(form(self.job.bytes()));
+        };
+        let own = self.job.lines().is_ok_and(|lines| !lines.rounds.is_empty());
+        let instead = match own || !default_remarks(&self.job).is_empty() {
+            true => "leave the 'house' lines out, which the job does not take",
+            false => "give its pairs as 'round' lines",
+        };
+        let words = format!("a job's bytes cannot say a house schedule; {instead}");
+        Done::wrong(NOTHING_DONE, format!("{}: line {line}: {words}", self.name))
     }
 }
 
@@ -204,8 +274,8 @@ fn on_file(command: &str, path: Option<&OsStr>) -> Done {
         "check" => Read::check,
         "print" => |read| read.run(&SecondPlanner),
         "lead" => Read::lead,
-        "bytes" => |read| read.form(read.job.bytes()),
-        "hex" => |read| read.form(pairs_text("", &read.job.bytes())),
+        "bytes" => |read| read.bytes(|bytes| bytes),
+        "hex" => |read| read.bytes(|bytes| pairs_text("", &bytes).into_bytes()),
         "text" => |read| read.form(read.job.to_string()),
         _ => {
             let words = format!("{} is not a command\n{USAGE}", quoted(command));
