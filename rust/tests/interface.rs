@@ -80,14 +80,18 @@ fn returned(text: &str) -> String {
 }
 
 /// A parameter of an export as C has it: a slice is a pointer and a length,
-/// an array or one number that is lent a pointer.
+/// an array or one number that is lent a pointer; C has no lifetimes.
 fn in_c(name: &str, kind: &str) -> Vec<(String, String)> {
-    let (pointed, constant) = match kind.strip_prefix("&mut ") {
-        Some(pointed) => (Some(pointed), ""),
-        None => (kind.strip_prefix('&'), "const "),
-    };
-    let Some(pointed) = pointed else {
+    let Some(pointed) = kind.strip_prefix('&') else {
         return vec![(name.into(), c_number(kind).into())];
+    };
+    let pointed = match pointed.strip_prefix('\'') {
+        Some(lifetime) => lifetime.split_once(' ').expect("a lifetime ends").1,
+        None => pointed,
+    };
+    let (pointed, constant) = match pointed.strip_prefix("mut ") {
+        Some(pointed) => (pointed, ""),
+        None => (pointed, "const "),
     };
     let pointer = |element| (name.into(), format!("{constant}{} *", c_number(element)));
     let list = pointed
@@ -116,6 +120,11 @@ fn parameters_are_as_c_has_them() {
             &[("x", "const uint32_t *"), ("x_length", "size_t")],
         ),
         ("&mut [u64]", &[("x", "uint64_t *"), ("x_length", "size_t")]),
+        (
+            "&'a [u32]",
+            &[("x", "const uint32_t *"), ("x_length", "size_t")],
+        ),
+        ("&'a mut u32", &[("x", "uint32_t *")]),
     ] {
         let parameters = in_c("x", kind);
         let parameters = parameters.iter().map(|(name, kind)| (&name[..], &kind[..]));
@@ -132,6 +141,7 @@ fn exported(source: &str) -> Functions {
         let (name, text) = text
             .and_then(|text| text.split_once('('))
             .expect("an export");
+        let (name, _) = name.split_once('<').unwrap_or((name, "lifetimes"));
         let (list, after) = text.split_once(')').expect("parameters end");
         let parameter = |part: &str| {
             let (name, kind) = part.split_once(": ").expect("a parameter has a type");
@@ -312,7 +322,7 @@ fn a_change_at_the_house_is_found() {
     all_found(declared_in_rust, &read("rust/src/ffi.rs"), &declarations);
     let exports = [
         ("count: &mut u32", "count: u32"),
-        ("house: &[u32]", "house: &mut [u32]"),
+        ("house: &'a [u32]", "house: &'a mut [u32]"),
         ("sheet: &[u32]", "sheet: &[u32; 32]"),
     ];
     all_found(exported, &read("crates/ffi_planner/src/lib.rt"), &exports);
