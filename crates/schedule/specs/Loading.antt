@@ -20,7 +20,7 @@ pairsIn d = take (d .count) (d .numbers)
 unfoldable pub atFirst : DefaultSchedule
 atFirst = record { numbers = over standard (replicate 32 0); count = length standard }
 
--- a sheet is loaded: where it is no schedule it is rejected, and what was in force stays; else it is in force
+-- a sheet is loaded: where it is unfit it is rejected, and what was in force stays; else it is in force
 unfoldable pub loading : DefaultSchedule → List ℕ → Loaded
 loading d sheet =
     cond (unfitSchedule sheet) (record { accepted = false; schedule = d })

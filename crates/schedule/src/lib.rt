@@ -44,7 +44,7 @@ fn unfit(schedule: &[u32], i: usize) -> bool
     factor < schedule[i + 2]
 }
 
-// Row 10: no schedule: empty, over 16 rounds, odd, out of range or rising.
+// Row 10: a schedule is unfit: empty, over 16 rounds, odd, out of range or rising.
 pub fn schedule_fails(schedule: &[u32]) -> bool
     ensures { λ r. ⌜ r ≡ unfitSchedule (now (schedule .entry)) ⌝ }
 {
