@@ -32,7 +32,8 @@
  *   SECONDCOOP_HOUSE_NUMBERS numbers, `count` to one.
  * - Nothing is kept from call to call and there is no global state: several
  *   threads may call at once with different memory to write; what is only
- *   read they may share. Nothing is allocated, and every call returns.
+ *   read they may share, and nobody may write it before the calls return.
+ *   Nothing is allocated, and every call returns.
  * - The libraries are for x86-64 with the System V calling convention (ELF
  *   objects, as on Linux; position-independent, without unwind tables) and
  *   need `memcpy` and `memset` from outside, nothing else.
@@ -279,8 +280,8 @@ void secondcoop_standard_house(uint32_t *numbers, uint32_t *count);
  * Gives SECONDCOOP_NOT_REFUSED: the first numbers are the sheet, those behind
  * it keep their contents, and the count is the sheet's length. Or gives
  * SECONDCOOP_BAD_SCHEDULE if the sheet is empty, over 16 pairs, odd, out of
- * range or rising: numbers and count, whatever they hold, stay as they are,
- * and so the previous house stays in force.
+ * range or rising: numbers and count, whatever they hold, are not written, and
+ * so the previous house stays in force.
  */
 uint32_t secondcoop_load_house(const uint32_t *sheet, size_t sheet_length,
                                uint32_t *numbers, uint32_t *count);
@@ -327,9 +328,11 @@ enum {
  * schedule     W1 and W2 of each round in hundredths, 100 to 10000, neither
  *              rising from a round to the next; up to 16 rounds, 32 numbers.
  *              An empty schedule means the house.
- * house        The site's house, its first `count` numbers. It is looked at
- *              only if the schedule is empty: then it is the call's schedule
- *              to the end, and tested as one, and an empty one is refused.
+ * house        The site's house, its first `count` numbers, not all 32. It is
+ *              looked at only if the schedule is empty: then it is the call's
+ *              schedule to the end, and tested as one, and an empty one is
+ *              refused. It must not change before the call returns; who loads
+ *              sheets meanwhile hands the call a copy.
  * budget       The allowance: the turns permitted over all rounds. 2 * V are
  *              enough for the first round, 2 * V times the rounds for all
  *              (SECONDCOOP_TURNS).

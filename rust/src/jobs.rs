@@ -67,7 +67,7 @@ impl Job {
 
     /// The factors that its rounds have, W1 and W2 of each.
     pub fn factors(&self) -> &[u32] {
-        planner::in_force(&self.schedule, &self.default_schedule)
+        planner::or_default(&self.schedule, &self.default_schedule)
     }
 
     /// The job as bytes can say it: a default schedule that is in force, unless

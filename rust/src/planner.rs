@@ -29,7 +29,7 @@ pub const STANDARD_SCHEDULE: [u32; 12] =
 
 /// The factors that a call's rounds have: its schedule's, or if that is empty
 /// the default schedule's, which the paper calls the house schedule.
-pub fn in_force<'a>(schedule: &'a [u32], default_schedule: &'a [u32]) -> &'a [u32] {
+pub fn or_default<'a>(schedule: &'a [u32], default_schedule: &'a [u32]) -> &'a [u32] {
     match schedule {
         [] => default_schedule,
         schedule => schedule,
@@ -1130,10 +1130,10 @@ fn taken<'a>(request: &Request<'a>, onlooker: &impl Onlooker) -> &'a [u32] {
     let (own, default) = (request.schedule, request.default_schedule);
     let has = |fault| onlooker.has(fault);
     match own {
-        _ if has(Fault::DefaultPreferred) => in_force(default, own),
-        [] if has(Fault::StandardForEmpty) => in_force(default, &STANDARD_SCHEDULE),
+        _ if has(Fault::DefaultPreferred) => or_default(default, own),
+        [] if has(Fault::StandardForEmpty) => or_default(default, &STANDARD_SCHEDULE),
         [] if has(Fault::StandardForDefault) && !is_bad_schedule(default) => &STANDARD_SCHEDULE,
-        _ => in_force(own, default),
+        _ => or_default(own, default),
     }
 }
 

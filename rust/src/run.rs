@@ -5,7 +5,7 @@
 use crate::bench_text::{answer_text, logged, refused};
 use crate::default_schedule::DefaultSchedule;
 use crate::jobs::Job;
-use crate::planner::{in_force, wide_numbers, work_words, Answer, Memory, MOST_FACTORS};
+use crate::planner::{or_default, wide_numbers, work_words, Answer, Memory, MOST_FACTORS};
 use crate::planners::{printed, Loader, Planner};
 use crate::reference::{MOST_EDGES, MOST_VERTICES};
 use crate::refusals::Taker;
@@ -53,7 +53,7 @@ pub fn asked(loader: &dyn Loader, job: &TextJob) -> Option<Job> {
         (places, plan.lanes.len().min(MOST_EDGES as usize))
     });
     let (anchor, guides) = numbers.split_at(places.min(numbers.len()));
-    let factors = in_force(&schedule, default_schedule);
+    let factors = or_default(&schedule, default_schedule);
     let turns = places * factors.len().min(MOST_FACTORS);
     Some(Job {
         bytes: lines.plan.bytes().expect("a job's plan has bytes"),

@@ -90,6 +90,12 @@ fn every_alignment_will_do() {
     finds_nothing("alignment.c");
 }
 
+/// Rejected sheets and refused calls write nothing, not even what stands there.
+#[test]
+fn refusals_write_nothing() {
+    finds_nothing("read_only.c");
+}
+
 #[test]
 fn the_header_is_c99_and_cpp() {
     for (compiler, standard) in [("cc", "c99"), ("c++", "c++98"), ("c++", "c++17")] {

@@ -21,7 +21,7 @@ firstEdgeAt (the-variants.Refused n p) = 0
 unfoldable pub verdictOf : Call → Verdict
 verdictOf c = verdict (jobOf c .size) (length (planEdges c)) (firstEdgeAt (header (c .bytes))) (faultOf c)
 
--- c is a call with these arguments, `schedule` in force, whose lent memory has these lengths
+-- c is a call with these arguments that takes `schedule`, and whose lent memory has these lengths
 pub record Asks (c : Call) (bytes : List ℕ) (q : Query) (anchor sheets schedule : List ℕ) (lengths : Lengths) : Type 0 where
   pub bytes-is : c .bytes ≡ bytes
   pub start-is : c .start ≡ q .start

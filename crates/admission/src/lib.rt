@@ -31,7 +31,7 @@ pub enum Verdict {
 }
 
 // The verdict on a planner call: refused for its first fault, those of the plan (1 to 7, 15) before the rows 8
-// to 13; or admitted. The schedule is the one in force.
+// to 13; or admitted. The schedule is the one that the call takes.
 pub fn decide(
     bytes: &[u8],
     q: Query,

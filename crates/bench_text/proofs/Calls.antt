@@ -19,7 +19,7 @@ use Rattle.job.specs.Printed.{printed, callText}
 use Rattle.job.proofs.Accepted.{accepted-ready}
 use Rattle.job.specs.Texts.{Texts}
 use Rattle.schedule.specs.declared.default_schedule.DefaultSchedule.{DefaultSchedule}
-use Rattle.schedule.specs.Loading.{pairsIn, atFirst}
+use Rattle.schedule.specs.Loading.{pairsIn, initial}
 use Rattle.schedule.proofs.Loading.{loads, standard-fits}
 use Rattle.bench_text.specs.Stored.{Stored}
 
@@ -41,8 +41,8 @@ stored-prefix old new vs n size room stored =
       size = sym (length-take-le n new fits);
     }
 
--- our own default schedule, at the front of its array
-pub standard-prefix : (d : DefaultSchedule) → d ≡ atFirst → Prefix (d .count) (d .numbers) standard
+-- the standard default schedule, at the front of its array
+pub standard-prefix : (d : DefaultSchedule) → d ≡ initial → Prefix (d .count) (d .numbers) standard
 unfolding pairsIn
 standard-prefix d e =
     let fits : d .count ≤ length (d .numbers) = standard-fits d e in

@@ -24,7 +24,7 @@ const WORK: usize = 6913;
 
 const WIDE: usize = 512;
 
-// The planner call on our own default schedule, and what it hands over printed.
+// The planner call on the standard default schedule, our six rounds, and what it hands over printed.
 fn plan_call(
     out: &mut [u8],
     plan: &[u8],

@@ -10,7 +10,7 @@ use Rattle.search.specs.Permitted.{barredBy, permitted}
 use Rattle.search.specs.Job.{cyclic, guides, heuristic, factors, standard, unreached, noPred, routeEnd, noOpinion, fresh, origin, atFirst, at}
 use Rattle.search.specs.Turn.{key, offered, better, leastFrom, least, stepOne, candidate, choose, marked, lowered, relax, relaxAll, expand}
 use Rattle.search.specs.Rounds.{firstTurn, nextTurn, turned, ended, inHand, step, choice, turn, trace, traced, improves, costOr, reopened, endRound, onFinished, settle, settled, begin, onDue, advance, run, moments, search}
-use Rattle.search.specs.Call.{inForce, scheduleOf, outOfRange, rising, unfitSchedule, pairs, row, first, endsRow, tablesRow, scheduleRow, memoryRow, goalRow, edgesRow, faultIn, faultOf, planEdges, tables, jobIn, jobFrom, jobOf}
+use Rattle.search.specs.Call.{orDefault, scheduleOf, outOfRange, rising, unfitSchedule, pairs, row, first, endsRow, tablesRow, scheduleRow, memoryRow, goalRow, edgesRow, faultIn, faultOf, planEdges, tables, jobIn, jobFrom, jobOf}
 use Rattle.search.specs.Outcome.{bound, summary, cutShort, answerAt, answerOf, figures, routeWords, routeAfter, logWord, logAfter, edgesBelow, firstEdges, markWord, twoEach, workWords, outcome, answerIn, answer, memoryIn, memoryAfter}
 use Rattle.job.proofs.JobA.{prints-A}
 use Rattle.cases.specs.Cases.{Cases}
@@ -26,7 +26,7 @@ use Rattle.cases.proofs.TwoVertices.{two-vertices}
 use Rattle.cases.proofs.StartIsGoal.{start-is-goal}
 
 computed : Cases × Apart × Barred × Costs × Opinion × Lead × Defaults
-unfolding Number.decode more answered read planGroups encode vertexCountRows edgeCountRows tailRows headRows costRows classRows through throughAll takeNumber taking leastAfter past nextEdge before onward edgesFrom header afterHeader decode sizes over roomFor readAs edgesIn readAnswer listAfter edgesOf listRows edgeRows edgesFault writeFault edgeBytes edgesBytes bytesOf outAfter edgeCost onEdge costFrom routeCost barredBy permitted cyclic guides heuristic factors standard unreached noPred routeEnd noOpinion fresh origin atFirst at key offered better leastFrom least stepOne candidate choose marked lowered relax relaxAll expand firstTurn nextTurn turned ended inHand step choice turn trace traced improves costOr reopened endRound onFinished settle settled begin onDue advance run moments search inForce scheduleOf outOfRange rising unfitSchedule pairs row first endsRow tablesRow scheduleRow memoryRow goalRow edgesRow faultIn faultOf planEdges tables jobIn jobFrom jobOf bound summary cutShort answerAt answerOf figures routeWords routeAfter logWord logAfter edgesBelow firstEdges markWord twoEach workWords outcome answerIn answer memoryIn memoryAfter roundOf hOf keyOf withPick shown
+unfolding Number.decode more answered read planGroups encode vertexCountRows edgeCountRows tailRows headRows costRows classRows through throughAll takeNumber taking leastAfter past nextEdge before onward edgesFrom header afterHeader decode sizes over roomFor readAs edgesIn readAnswer listAfter edgesOf listRows edgeRows edgesFault writeFault edgeBytes edgesBytes bytesOf outAfter edgeCost onEdge costFrom routeCost barredBy permitted cyclic guides heuristic factors standard unreached noPred routeEnd noOpinion fresh origin atFirst at key offered better leastFrom least stepOne candidate choose marked lowered relax relaxAll expand firstTurn nextTurn turned ended inHand step choice turn trace traced improves costOr reopened endRound onFinished settle settled begin onDue advance run moments search orDefault scheduleOf outOfRange rising unfitSchedule pairs row first endsRow tablesRow scheduleRow memoryRow goalRow edgesRow faultIn faultOf planEdges tables jobIn jobFrom jobOf bound summary cutShort answerAt answerOf figures routeWords routeAfter logWord logAfter edgesBelow firstEdges markWord twoEach workWords outcome answerIn answer memoryIn memoryAfter roundOf hOf keyOf withPick shown
 computed = (
   record {
     job-A = record { says = refl; leaves = refl };
@@ -48,7 +48,6 @@ computed = (
     job-C = record { says = refl; leaves = refl };
     guide-3 = refl;
     guide-3-says = refl;
-    six-rounds = refl;
   },
   record {
     ramp = record { says = refl; leaves = refl };
@@ -104,9 +103,10 @@ computed = (
   },
   record { job-A = refl; job-A-at-3 = refl; reached = refl; reached-at-2 = refl; beyond = refl },
   record {
-    usual = record { says = refl; leaves = refl };
+    six-rounds = refl;
+    default = record { says = refl; leaves = refl };
     six = record { says = refl; leaves = refl };
-    own = λ usual. record { says = refl; leaves = refl };
+    own = λ default. record { says = refl; leaves = refl };
     one-round = refl;
     sixteen-rounds = refl;
     no-round = record { says = refl; leaves = refl };

@@ -3,10 +3,9 @@ use Prim.Native.Nat.{ℕ}
 use mathlib.Core.Path.{_≡_}
 use mathlib.Core.List.{List, [], _∷_, _++_, map}
 use lib.ListN.{replicate}
-use Rattle.search.specs.declared.Factors.{Factors}
 use Rattle.search.specs.Job.{Job, standard}
 use Rattle.search.specs.Rounds.{search}
-use Rattle.search.specs.Call.{Call, pairs, jobOf}
+use Rattle.search.specs.Call.{Call, jobOf}
 use Rattle.search.specs.Outcome.{answerOf, figures, logWord}
 use Rattle.search.specs.Guarantee.{withPick}
 use Rattle.cases.specs.Cases.{HandsOver, routed, unfinishedAfter, unset, never, old}
@@ -66,14 +65,6 @@ workC p q r s t =
 abbrev pub wideC : List ℕ → List ℕ → List ℕ → List ℕ → List ℕ → List ℕ
 wideC p q r s t = p ++ q ++ r ++ s ++ t ++ (old ∷ [])
 
--- a round with W1 = W2
-abbrev pub alike : ℕ → Factors
-alike w = record { w1 = w; w2 = w }
-
--- our six rounds
-abbrev pub sixRounds : List Factors
-sixRounds = map alike (500 ∷ 300 ∷ 200 ∷ 150 ∷ 120 ∷ 100 ∷ [])
-
 pub record Apart : Type 0 where
   -- turns 1 to 3: guides 1, 2 and 3, in this order
   -- turn 3: equal keys of 3 and 5, the lowest is taken, its 100·key equal to W2·m
@@ -126,5 +117,3 @@ pub record Apart : Type 0 where
   -- under another rule for whose turn it is, what `AnyRule` speaks of, job B has other turns
   pub guide-3 : map logWord (search jobB3 100 .history) ≡ 196608 ∷ 196609 ∷ 196611 ∷ 196613 ∷ 196611 ∷ 2 ∷ []
   pub guide-3-says : figures (answerOf jobB3 (search jobB3 100 .final)) ≡ routed 4 5 2 6 10000
-  -- the house schedule until a site's own is accepted
-  pub six-rounds : pairs standard ≡ sixRounds

@@ -8,7 +8,7 @@ use Rattle.graph.specs.Plan.{decode}
 use Rattle.graph.specs.Plan
 use Rattle.graph.specs.Lists.{over, readAnswer}
 use Rattle.search.specs.Job.{Job, factors, standard, routeEnd, atFirst}
-use Rattle.search.specs.Call.{Memory, Call, inForce, planEdges, jobOf}
+use Rattle.search.specs.Call.{Memory, Call, orDefault, planEdges, jobOf}
 use Rattle.search.specs.Admitted.{Schedule, Admitted}
 use Rattle.search.specs.Outcome.{Figures, route, noRoute, unfinished, refused, figures, workWords, wideWords, answer, memoryAfter}
 use Rattle.job.specs.JobA.{planA, PrintsA}
@@ -122,8 +122,6 @@ workA p q r s = workWith (0 ∷ 0 ∷ 0 ∷ 0 ∷ []) p q r s
 abbrev pub wideA : List ℕ → List ℕ → List ℕ → List ℕ → List ℕ
 wideA p q r s = p ++ q ++ r ++ s ++ (old ∷ [])
 
--- ---- `02 00`, from 0 to 1
-
 -- lent memory after all of job A
 abbrev pub afterA : Memory
 afterA =
@@ -134,9 +132,11 @@ afterA =
       wide = wideA (0 ∷ 0 ∷ []) (1 ∷ 1 ∷ []) (3 ∷ 3 ∷ []) (6 ∷ never ∷ []);
     }
 
+-- ---- `02 00`, from 0 to 1
+
 -- zero anchor table, no guides
 abbrev pub twoVertices : ℕ → List ℕ → List ℕ → ℕ → Memory → Call
-twoVertices barred schedule usual budget memory =
+twoVertices barred schedule default budget memory =
     record {
       bytes = 0x02 ∷ 0x00 ∷ [];
       start = 0;
@@ -146,7 +146,7 @@ twoVertices barred schedule usual budget memory =
       sheets = [];
       count = 0;
       schedule = schedule;
-      defaultSchedule = usual;
+      defaultSchedule = default;
       budget = budget;
       memory = memory;
     }
@@ -212,10 +212,10 @@ pub record Cases : Type 0 where
       })
   -- the same three from job bytes, as the bench program prints them
   pub job-A-prints : PrintsA
-  -- (p) `02 00`, 0 to 1, zero anchor table, no guides, allowance 1 or more: no route, 1 turn; whatever classes are barred, whichever schedule is in force
+  -- (p) `02 00`, 0 to 1, zero anchor table, no guides, allowance 1 or more: no route, 1 turn; whatever classes are barred, whichever schedule it takes
   pub two-vertices :
-      (barred : ℕ) → barred ≤ 255 → (ws usual : List ℕ) → Schedule (inForce usual ws) → (budget : ℕ) → 1 ≤ budget →
-      (m : Memory) → Enough 2 0 m → HandsOver (twoVertices barred ws usual budget m) (noRouteAfter 1) (twoVerticesAfter m)
+      (barred : ℕ) → barred ≤ 255 → (ws default : List ℕ) → Schedule (orDefault default ws) → (budget : ℕ) → 1 ≤ budget →
+      (m : Memory) → Enough 2 0 m → HandsOver (twoVertices barred ws default budget m) (noRouteAfter 1) (twoVerticesAfter m)
   -- (p) Start = goal, allowance 0, valid tables: cost 0, every round finished. So of every call that is not refused
   pub start-is-goal : (c : Call) → Admitted c → c .start ≡ c .goal → HandsOver c (allRounds c) (startAlone c)
   -- (p) no bytes: 1 at 0

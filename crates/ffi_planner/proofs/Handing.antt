@@ -1,11 +1,14 @@
 -- What is handed to other languages is the outcome of the planner call, and of loading a sheet.
 use mathlib.Core.Path.{_≡_, sym, subst, ap, _∙_}
-use mathlib.Core.Bool.{Bool, cond}
+use mathlib.Core.Bool.{Bool, true, false, cond}
 use mathlib.Core.List.{List}
 use Prim.Native.Nat.{ℕ}
 use Rattle.search.specs.declared.Answer.{Answer}
 use Rattle.search.specs.Call.{Memory, Call}
+use Rattle.schedule.specs.declared.default_schedule.DefaultSchedule.{DefaultSchedule}
 use Rattle.schedule.specs.declared.default_schedule.Loaded.{Loaded}
+use Rattle.schedule.specs.Loading.{loading}
+use Rattle.schedule.proofs.Loading.{loads}
 use Rattle.planner.specs.Plan.{Planned}
 use Rattle.ffi_planner.specs.Calls.{answerFigures, Exported}
 use Rattle.ffi_planner.specs.House.{LoadedTo}
@@ -19,9 +22,14 @@ exported c a figs m e p =
     }
 
 -- what loading a sheet gives, in numbers
-pub loaded-to : (l given : Loaded) → given ≡ l → (b : Bool) → given .accepted ≡ b → LoadedTo l (cond b 0 10) (given .schedule)
-loaded-to l given e b a =
-    record {
-      number-is = ap (λ (x : Bool). cond x 0 10) (sym a ∙ ap (λ (x : Loaded). x .accepted) e);
-      house-is = ap (λ (x : Loaded). x .schedule) e;
-    }
+module _ (house : DefaultSchedule) (sheet : List ℕ) (given : Loaded) (e : given ≡ loading house sheet) where
+  said : (b : Bool) → given .accepted ≡ b → _≡_ {A = ℕ} (cond b 0 10) (cond (loading house sheet .accepted) 0 10)
+  said b a = ap (λ (x : Bool). cond x 0 10) (sym a ∙ ap (λ (x : Loaded). x .accepted) e)
+
+  pub accepted-to : given .accepted ≡ true → LoadedTo (loading house sheet) 0 (given .schedule)
+  accepted-to a = record { number-is = said true a; house-is = ap (λ (x : Loaded). x .schedule) e }
+
+  -- nothing is written
+  pub rejected-to : given .accepted ≡ false → LoadedTo (loading house sheet) 10 house
+  rejected-to a =
+      record { number-is = said false a; house-is = sym (loads .kept house sheet (ap (λ (x : Loaded). x .accepted) (sym e) ∙ a)) }

@@ -3,7 +3,7 @@
 ghost use mathlib.Core.Path.{_≡_};
 ghost use Rattle.planner.specs.Plan.{memoryOf, callOf};
 ghost use Rattle.job.specs.Texts.{Prints};
-ghost use Rattle.schedule.specs.Loading.{atFirst, loading};
+ghost use Rattle.schedule.specs.Loading.{initial, loading};
 ghost use Rattle.ffi_planner.specs.Calls.{answerFigures, Exported};
 ghost use Rattle.ffi_planner.specs.House.{houseOf, LoadedTo};
 use schedule::default_schedule::DefaultSchedule;
@@ -33,7 +33,7 @@ fn of_answer(answer: Answer) -> [u64; 8]
 // The house schedule until a sheet is accepted.
 #[no_mangle]
 pub extern "C" fn secondcoop_standard_house(numbers: &mut [u32; 32], count: &mut u32)
-    ensures { λ _. ⌜ houseOf (now (numbers .exit)) (now (count .exit)) ≡ atFirst ⌝ }
+    ensures { λ _. ⌜ houseOf (now (numbers .exit)) (now (count .exit)) ≡ initial ⌝ }
 {
     let standard = DefaultSchedule::standard();
     let six = standard.numbers;
@@ -41,7 +41,7 @@ pub extern "C" fn secondcoop_standard_house(numbers: &mut [u32; 32], count: &mut
     *count = standard.count;
 }
 
-// A sheet loaded as the house schedule: 0, or 10 where it is rejected.
+// A sheet loaded as the house schedule: 0, or 10 where it is rejected, and then nothing is written.
 #[no_mangle]
 pub extern "C" fn secondcoop_load_house(
     sheet: &[u32],
@@ -56,10 +56,10 @@ pub extern "C" fn secondcoop_load_house(
         count: *count,
     };
     let loaded = house.load(sheet);
-    let in_force = loaded.schedule.numbers;
-    *numbers = in_force;
-    *count = loaded.schedule.count;
     if loaded.accepted {
+        let in_force = loaded.schedule.numbers;
+        *numbers = in_force;
+        *count = loaded.schedule.count;
         return 0;
     }
     10

@@ -18,14 +18,20 @@ planWith class =
 abbrev pub planA : List ℕ
 planA = planWith 0x00
 
--- job A as bytes, with lane 0→1 of this class, these bytes of the barred number, and an allowance of one byte
-abbrev pub jobWith : ℕ → List ℕ → ℕ → List ℕ
-jobWith class barred budget =
+-- job A as bytes, with lane 0→1 of this class, these bytes of the barred number, an allowance of one byte, and these of the rounds
+abbrev pub jobOn : ℕ → List ℕ → ℕ → List ℕ → List ℕ
+jobOn class barred budget rounds =
     0x12
     ∷ (planWith class
     ++ (0x00 ∷ 0x03 ∷ [])
     ++ barred
-    ++ (budget ∷ 0x02 ∷ 0xC8 ∷ 0x01 ∷ 0xC8 ∷ 0x01 ∷ 0x64 ∷ 0x64 ∷ 0x01 ∷ 0x06 ∷ 0x05 ∷ 0x03 ∷ 0x00 ∷ 0x00 ∷ 0x09 ∷ 0x00 ∷ 0x00 ∷ []))
+    ++ (budget ∷ [])
+    ++ rounds
+    ++ (0x01 ∷ 0x06 ∷ 0x05 ∷ 0x03 ∷ 0x00 ∷ 0x00 ∷ 0x09 ∷ 0x00 ∷ 0x00 ∷ []))
+
+-- with its own two rounds
+abbrev pub jobWith : ℕ → List ℕ → ℕ → List ℕ
+jobWith class barred budget = jobOn class barred budget (0x02 ∷ 0xC8 ∷ 0x01 ∷ 0xC8 ∷ 0x01 ∷ 0x64 ∷ 0x64 ∷ [])
 
 -- no class is barred; document 01's allowance is 0x64
 abbrev pub jobA : ℕ → List ℕ
@@ -50,5 +56,10 @@ pub record PrintsA : Type 0 where
   -- a barred number of 256: 8; of bad form (here not shortest): 14
   pub barred-256 : benchText (jobWith 0x00 (0x80 ∷ 0x02 ∷ []) 0x64) ≡ ascii "refused 8 at 0\n"
   pub barred-malformed : benchText (jobWith 0x00 (0x80 ∷ 0x00 ∷ []) 0x64) ≡ ascii "refused 14 at 0\n"
+  -- without rounds it is planned on our six
+  pub no-rounds :
+      benchText (jobOn 0x00 (0x00 ∷ []) 0x64 (0x00 ∷ []))
+      ≡ ascii
+      "turn 1 table 1 place 0\nturn 2 table 1 place 2\nturn 3 table 0 place 1\nturn 4 table 1 place 2\nroute 0 1 2 3\nend cost 6 rounds 6 turns 4 bound 10000\n"
   -- class 8: 15, at its offset in the plan
   pub class-8 : benchText (jobWith 0x08 (0x00 ∷ []) 0x64) ≡ ascii "refused 15 at 5\n"

@@ -10,7 +10,7 @@ use Rattle.search.specs.declared.Answer.{Answer}
 use Rattle.search.specs.declared.Answer.the-variants as answers
 use Rattle.search.specs.Job.{Job}
 use Rattle.search.specs.Rounds.{begin, run, moments, search}
-use Rattle.search.specs.Call.{Memory, Call, inForce, scheduleOf, faultOf, planEdges, jobOf}
+use Rattle.search.specs.Call.{Memory, Call, orDefault, scheduleOf, faultOf, planEdges, jobOf}
 use Rattle.search.specs.Outcome.{answerOf, logAfter, workWords, outcome, answerIn, answer, memoryIn, memoryAfter}
 use Rattle.search.proofs.Admitted.{admitted, plan-edges}
 use Rattle.search.proofs.Standing.{begin-good}
@@ -87,13 +87,13 @@ module _ (c : Call) (z : Size) (q : Query) (at : ℕ) (bytes anchor guides sched
 
 -- ---- refused, or not
 
--- a call with these arguments, the schedule in force, and what is decided of it
-module _ (bytes : List ℕ) (start goal barred : ℕ) (anchor sheets : List ℕ) (count : ℕ) (given usual : List ℕ) (budget : ℕ) (m : Memory)
-    (schedule : List ℕ) (e : schedule ≡ inForce usual given) (d : Verdict)
-    (k : Decided bytes (queryOf (callOf bytes start goal barred anchor sheets count given usual budget m)) anchor sheets schedule
+-- a call with these arguments, the schedule that it takes, and what is decided of it
+module _ (bytes : List ℕ) (start goal barred : ℕ) (anchor sheets : List ℕ) (count : ℕ) (given default : List ℕ) (budget : ℕ) (m : Memory)
+    (schedule : List ℕ) (e : schedule ≡ orDefault default given) (d : Verdict)
+    (k : Decided bytes (queryOf (callOf bytes start goal barred anchor sheets count given default budget m)) anchor sheets schedule
     (record { route = length (m .route); work = length (m .work); wide = length (m .wide) }) d) where
   abbrev c : Call
-  c = callOf bytes start goal barred anchor sheets count given usual budget m
+  c = callOf bytes start goal barred anchor sheets count given default budget m
 
   picked : schedule ≡ scheduleOf c
   unfolding scheduleOf

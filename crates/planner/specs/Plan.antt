@@ -13,7 +13,7 @@ memoryOf route log work wide = record { route = route; log = log; work = work; w
 
 -- the call with these arguments, where memory is lent as it is
 abbrev pub callOf : List ℕ → ℕ → ℕ → ℕ → List ℕ → List ℕ → ℕ → List ℕ → List ℕ → ℕ → Memory → Call
-callOf bytes start goal barred anchor guides count schedule usual budget m =
+callOf bytes start goal barred anchor guides count schedule default budget m =
     record {
       bytes = bytes;
       start = start;
@@ -23,7 +23,7 @@ callOf bytes start goal barred anchor guides count schedule usual budget m =
       sheets = guides;
       count = count;
       schedule = schedule;
-      defaultSchedule = usual;
+      defaultSchedule = default;
       budget = budget;
       memory = m;
     }

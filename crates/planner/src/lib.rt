@@ -43,7 +43,7 @@ pub fn plan<'a>(
 ) -> Answer
     ensures { λ r. ⌜ Planned (callOf (now (bytes .entry)) start goal barred (now (anchor .entry)) (now (guides .entry)) «guide_count» (now (schedule .entry)) (now («default_schedule» .entry)) budget (memoryOf (now (route .entry)) (now (log .entry)) (now (work .entry)) (now (wide .entry)))) r (memoryOf (now (route .exit)) (now (log .exit)) (now (work .exit)) (now (wide .exit))) ⌝ }
 {
-    let in_force = schedule::in_force(schedule, default_schedule);
+    let taken = schedule::or_default(schedule, default_schedule);
     let q = Query {
         start,
         goal,
@@ -56,7 +56,7 @@ pub fn plan<'a>(
         work: work.len(),
         wide: wide.len(),
     };
-    match admission::decide(bytes, q, anchor, guides, in_force, lengths) {
+    match admission::decide(bytes, q, anchor, guides, taken, lengths) {
         Verdict::Refused(n, p) => Answer::Refused(n, p),
         Verdict::Admitted(vertices, edges, at) => {
             let z = Size { vertices, edges };
@@ -64,7 +64,7 @@ pub fn plan<'a>(
                 bytes,
                 anchor,
                 guides,
-                in_force,
+                taken,
                 z,
                 q,
                 at,

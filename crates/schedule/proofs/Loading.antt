@@ -7,14 +7,14 @@ use mathlib.Core.Logic.{_↔_}
 use mathlib.Core.Bool.{Bool, true, false, true≢false, cond, not}
 use mathlib.Core.List.{List, [], _∷_, _++_, List·Memᴰ, List·Memᴰ·head, List·Memᴰ·tail}
 use lib.ListN.{length, getD, set, take, drop, replicate}
-use lib.Seq.{paste, paste-zero, paste-suc, take-all, take-append-seam}
+use lib.Seq.{paste, paste-zero, paste-suc, take-all, take-append-seam, drop-append-seam}
 use Rattle.graph.specs.Lists.{none, over}
 use Rattle.search.specs.Job.{standard}
-use Rattle.search.specs.Call.{outOfRange, rising, unfitSchedule, row, scheduleRow}
+use Rattle.search.specs.Call.{Call, scheduleOf, outOfRange, rising, unfitSchedule, pairs, row, scheduleRow, jobOf}
 use Rattle.search.specs.Admitted.{Schedule}
-use Rattle.search.proofs.Admitted.{schedules}
+use Rattle.search.proofs.Admitted.{schedules, job-schedule, force-default}
 use Rattle.schedule.specs.declared.default_schedule.DefaultSchedule.{DefaultSchedule}
-use Rattle.schedule.specs.Loading.{pairsIn, atFirst, loading, after, Rejected, Loads}
+use Rattle.schedule.specs.Loading.{pairsIn, initial, loading, after, Rejected, Loads}
 
 -- ---- the loop
 
@@ -88,6 +88,13 @@ module _ (d : DefaultSchedule) (sheet : List ℕ) where
   taken-by true e a = absurd (true≢false (sym a ∙ accepted-by true e))
   taken-by false e a = rw e (pairs-over sheet (d .numbers))
 
+  behind-by :
+      (b : Bool) → unfitSchedule sheet ≡ b → loading d sheet .accepted ≡ true →
+      drop (length sheet) (loading d sheet .schedule .numbers) ≡ drop (length sheet) (d .numbers)
+  unfolding loading over
+  behind-by true e a = absurd (true≢false (sym a ∙ accepted-by true e))
+  behind-by false e a = rw e (drop-append-seam sheet (drop (length sheet) (d .numbers)))
+
   kept-by : (b : Bool) → unfitSchedule sheet ≡ b → loading d sheet .accepted ≡ false → loading d sheet .schedule ≡ d
   unfolding loading
   kept-by true e a = rw e
@@ -126,31 +133,40 @@ unfolding after
 fit-all d [] h = h
 fit-all d (sheet ∷ sheets) h = fit-all (loading d sheet .schedule) sheets (fit-by d sheet (unfitSchedule sheet) refl h)
 
-at-first : pairsIn atFirst ≡ standard
-unfolding atFirst
+at-first : pairsIn initial ≡ standard
+unfolding initial
 at-first = pairs-over standard (replicate 32 0)
 
 fit-first : unfitSchedule standard ≡ false
 unfolding standard unfitSchedule outOfRange rising
 fit-first = refl
 
-fits : (sheets : List (List ℕ)) → scheduleRow (pairsIn (after atFirst sheets)) ≡ none
+fits : (sheets : List (List ℕ)) → scheduleRow (pairsIn (after initial sheets)) ≡ none
 unfolding scheduleRow row
-fits sheets = rw (fit-all atFirst sheets (ap unfitSchedule at-first ∙ fit-first))
+fits sheets = rw (fit-all initial sheets (ap unfitSchedule at-first ∙ fit-first))
+
+serves :
+    (sheets : List (List ℕ)) (c : Call) → c .schedule ≡ [] → c .defaultSchedule ≡ pairsIn (after initial sheets) →
+    (scheduleRow (scheduleOf c) ≡ none) × (jobOf c .schedule ≡ pairs (pairsIn (after initial sheets)))
+serves sheets c own default =
+    let e : scheduleOf c ≡ pairsIn (after initial sheets) = force-default c own ∙ default in
+    (ap scheduleRow e ∙ fits sheets, job-schedule c ∙ ap pairs e)
 
 pub loads : Loads
 loads =
     record {
       tested = λ d sheet. tested-by d sheet (unfitSchedule sheet) refl;
       taken = λ d sheet. taken-by d sheet (unfitSchedule sheet) refl;
+      behind = λ d sheet. behind-by d sheet (unfitSchedule sheet) refl;
       kept = λ d sheet. kept-by d sheet (unfitSchedule sheet) refl;
       first = at-first;
-      until = until-all atFirst;
+      until = until-all initial;
       latest = after-latest;
       fit = fits;
+      served = serves;
     }
 
 -- its count is within its numbers
-pub standard-fits : (d : DefaultSchedule) → d ≡ atFirst → d .count ≤ length (d .numbers)
-unfolding atFirst standard over
+pub standard-fits : (d : DefaultSchedule) → d ≡ initial → d .count ≤ length (d .numbers)
+unfolding initial standard over
 standard-fits d e = rw e (omega arith)

@@ -3,7 +3,7 @@ ghost use Prim.Native.Nat.{_≤_};
 ghost use mathlib.Core.Path.{_≡_};
 ghost use lib.ListN.{length};
 ghost use Rattle.graph.specs.Lists.{over};
-ghost use Rattle.schedule.specs.Loading.{atFirst, loading};
+ghost use Rattle.schedule.specs.Loading.{initial, loading};
 use crate::schedule_fails;
 
 // The default schedule: its first `count` numbers, W1, W2, W1, W2, ..
@@ -35,7 +35,7 @@ fn laid(numbers: [u32; 32], sheet: &[u32]) -> [u32; 32]
 impl DefaultSchedule {
     // The one that stands until a sheet is accepted: our six rounds.
     pub fn standard() -> DefaultSchedule
-        ensures { λ r. ⌜ r ≡ atFirst ⌝ }
+        ensures { λ r. ⌜ r ≡ initial ⌝ }
     {
         let six = [500, 500, 300, 300, 200, 200, 150, 150, 120, 120, 100, 100];
         let numbers = laid([0u32; 32], &six);

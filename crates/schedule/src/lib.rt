@@ -1,10 +1,10 @@
-// The schedule in force: which one it is, row 10, and the factors of each round; and the default schedule.
+// The schedule that a call takes: which one it is, row 10, and the factors of each round; and the default schedule.
 pub mod default_schedule;
 
 ghost use Prim.Native.Nat.{_≤_, _<_};
 ghost use mathlib.Core.Path.{_≡_};
 ghost use lib.ListN.{length, getD};
-ghost use Rattle.search.specs.Call.{inForce, pairs, unfitSchedule};
+ghost use Rattle.search.specs.Call.{orDefault, pairs, unfitSchedule};
 ghost use Rattle.schedule.specs.Unfit.{unfitAt};
 use search::Factors;
 
@@ -15,9 +15,9 @@ const LEAST_FACTOR: u32 = 100;
 
 const MOST_FACTOR: u32 = 10000;
 
-// The schedule in force: where none is given, the default schedule (house schedule).
-pub fn in_force<'a>(given: &'a [u32], default_schedule: &'a [u32]) -> &'a [u32]
-    ensures { λ r. ⌜ now r ≡ inForce (now («default_schedule» .entry)) (now (given .entry)) ⌝ }
+// The schedule that a call takes: its own, or where that is empty the default schedule (house schedule).
+pub fn or_default<'a>(given: &'a [u32], default_schedule: &'a [u32]) -> &'a [u32]
+    ensures { λ r. ⌜ now r ≡ orDefault (now («default_schedule» .entry)) (now (given .entry)) ⌝ }
 {
     if given.len() == 0 {
         return default_schedule;
@@ -68,7 +68,7 @@ pub fn schedule_fails(schedule: &[u32]) -> bool
     false
 }
 
-// How many rounds a schedule in force has, where it has at most 32 numbers.
+// How many rounds a schedule has, where it has at most 32 numbers.
 pub fn rounds(schedule: &[u32]) -> u32
     requires { ⌜ length (now schedule) ≤ 32 ⌝ }
     ensures { λ r. ⌜ r ≡ length (pairs (now (schedule .entry))) ⌝ }
@@ -76,7 +76,7 @@ pub fn rounds(schedule: &[u32]) -> u32
     (schedule.len() / 2) as u32
 }
 
-// The factors that a schedule in force has for the round after r others.
+// The factors that a schedule has for the round after r others.
 pub fn factors(schedule: &[u32], r: u32) -> Factors
     requires { ⌜ r < length (pairs (now schedule)) ⌝ }
     ensures { λ f. ⌜ f ≡ getD (pairs (now (schedule .entry))) r (record { w1 = 0; w2 = 0 }) ⌝ }

@@ -4,8 +4,8 @@ use borrow.Author.Needs.{needs}
 use Rattle.planner.proofs.plan.Statement.{statement}
 use Rattle.planner.proofs.plan.Tie as tie
 
-in-force-requires : tie.Need-in-force-requires
-in-force-requires c κs = search needs
+or-default-requires : tie.Need-or-default-requires
+or-default-requires c κs = search needs
 
 decide-requires : tie.Need-decide-requires
 decide-requires c κs = search needs
@@ -19,12 +19,12 @@ enum-known-vertices c = search needs
 answer-requires : tie.Need-answer-requires
 answer-requires c κs =
     let k = c .before .before .before .before .before .before .before in
-    lent-here _ _ _ _ _ _ _ _ _ _ _ _ (k .before .in-force .ensures) _ (k .decide .ensures) _ _ _ (c .before .before .before .before .before .vertices .given .1)
+    lent-here _ _ _ _ _ _ _ _ _ _ _ _ (k .before .or-default .ensures) _ (k .decide .ensures) _ _ _ (c .before .before .before .before .before .vertices .given .1)
 
 returns : tie.Need-returns
 returns c =
     let k = c .before .before .before in
-    planned-refused _ _ _ _ _ _ _ _ _ _ _ _ (k .before .in-force .ensures) _ (k .decide .ensures) _ _ (c .before .n .given .1)
+    planned-refused _ _ _ _ _ _ _ _ _ _ _ _ (k .before .or-default .ensures) _ (k .decide .ensures) _ _ (c .before .n .given .1)
 
 same-length : tie.Need-same-length
 same-length c = search needs
@@ -42,13 +42,13 @@ returns-2 : tie.Need-returns-2
 returns-2 c =
     let f = c .before .before .before .before .before .before .before .before in
     let k = f .before .before .before .before .before .before .before .before in
-    planned _ _ _ _ _ _ _ _ _ _ _ _ (k .before .in-force .ensures) _ (k .decide .ensures) _ _ _ (f .before .before .before .before .before .before .vertices .given .1) _ _ (f .answer .ensures)
+    planned _ _ _ _ _ _ _ _ _ _ _ _ (k .before .or-default .ensures) _ (k .decide .ensures) _ _ _ (f .before .before .before .before .before .before .vertices .given .1) _ _ (f .answer .ensures)
 
 pub plan-spec : {M : Type 1} → statement M
 plan-spec =
     tie.close
     (tie.spec
-    in-force-requires
+    or-default-requires
     decide-requires
     enum-known-n
     enum-known-vertices

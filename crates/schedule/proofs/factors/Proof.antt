@@ -1,6 +1,6 @@
 -- `factors` meets its contract: both are numbers of the schedule.
 use native.Mathlib.Omega.{arith}
-use Rattle.schedule.proofs.InForce.{pairs-within, pairs-at}
+use Rattle.schedule.proofs.Taken.{pairs-within, pairs-at}
 use borrow.Author.Needs.{needs}
 use Rattle.schedule.proofs.factors.Statement.{statement}
 use Rattle.schedule.proofs.factors.Tie as tie

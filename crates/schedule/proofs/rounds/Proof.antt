@@ -1,6 +1,6 @@
 -- `rounds` meets its contract: two numbers for each round.
 use mathlib.Core.Path.{sym}
-use Rattle.schedule.proofs.InForce.{pairs-length}
+use Rattle.schedule.proofs.Taken.{pairs-length}
 use borrow.Author.Needs.{needs}
 use Rattle.schedule.proofs.rounds.Statement.{statement}
 use Rattle.schedule.proofs.rounds.Tie as tie

@@ -2,7 +2,7 @@
 use Prim.Native.Nat.{_-_}
 use mathlib.Core.Path.{sym, _∙_}
 use native.Mathlib.Omega.{arith}
-use Rattle.schedule.proofs.InForce.{Fit, fit-first, fit-next, row-empty, row-long, row-odd, row-unfit, row-fit}
+use Rattle.schedule.proofs.Taken.{Fit, fit-first, fit-next, row-empty, row-long, row-odd, row-unfit, row-fit}
 use Rattle.schedule.proofs.schedule_fails.Statement.{statement}
 use Rattle.schedule.proofs.schedule_fails.Tie as tie
 

@@ -1,6 +1,6 @@
 -- `unfit` meets its contract.
 use mathlib.Core.Path.{refl}
-use Rattle.schedule.proofs.InForce.{unfit-low, unfit-high, unfit-last, unfit-next}
+use Rattle.schedule.proofs.Taken.{unfit-low, unfit-high, unfit-last, unfit-next}
 use borrow.Author.Needs.{needs}
 use Rattle.schedule.proofs.unfit.Statement.{statement}
 use Rattle.schedule.proofs.unfit.Tie as tie

@@ -1,4 +1,4 @@
--- `plan_call` meets its contract: the call on our own default schedule, then its text.
+-- `plan_call` meets its contract: the call on the standard default schedule, then its text.
 use mathlib.Core.Path.{ap}
 use Rattle.search.specs.Call.{Memory}
 use Rattle.job.specs.Asked.{zeros, callWith}

@@ -1,7 +1,7 @@
 -- `standard` meets its contract: our six rounds, and zeros behind them.
 use mathlib.Core.Path.{refl}
 use Rattle.search.specs.Job.{standard}
-use Rattle.schedule.specs.Loading.{atFirst}
+use Rattle.schedule.specs.Loading.{initial}
 use borrow.Author.Needs.{needs}
 use Rattle.schedule.proofs.default_schedule.DefaultSchedule.standard.Statement.{statement}
 use Rattle.schedule.proofs.default_schedule.DefaultSchedule.standard.Tie as tie
@@ -13,7 +13,7 @@ laid-requires : tie.Need-laid-requires
 laid-requires c κs = search needs
 
 returns : tie.Need-returns
-unfolding atFirst standard
+unfolding initial standard
 returns c = rw (c .laid .ensures)
 
 pub standard-spec : {M : Type 1} → statement M

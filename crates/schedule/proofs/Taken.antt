@@ -1,4 +1,4 @@
--- Laws of the schedule in force: which one it is, row 10, its rounds and their factors.
+-- Laws of the schedule that a call takes: which one it is, row 10, its rounds and their factors.
 use Prim.Native.Nat.{ℕ, zero, suc, _+_, _-_, _*_, _/_, _%_, _≤_, _<_}
 use native.Mathlib.Numerals.{add-one}
 use native.Mathlib.Omega.{arith}
@@ -10,20 +10,20 @@ use lib.Seq.{drop-cons, getD-drop}
 use lib.Dec.{ltb, eqb}
 use borrow.Author.Tests.{lt-ltb, le-ltb, eq-eqb, ne-eqb}
 use Rattle.search.specs.declared.Factors.{Factors}
-use Rattle.search.specs.Call.{inForce, outOfRange, rising, unfitSchedule, pairs}
+use Rattle.search.specs.Call.{orDefault, outOfRange, rising, unfitSchedule, pairs}
 use Rattle.schedule.specs.Unfit.{unfit, unfitAt}
 
--- ---- which schedule is in force
+-- ---- which schedule it is
 
-pub usual-there : (usual ws : List ℕ) → length ws ≡ 0 → usual ≡ inForce usual ws
-unfolding inForce
-usual-there usual [] h = refl
-usual-there usual (w ∷ ws) h = absurd (omega arith)
+pub default-there : (default ws : List ℕ) → length ws ≡ 0 → default ≡ orDefault default ws
+unfolding orDefault
+default-there default [] h = refl
+default-there default (w ∷ ws) h = absurd (omega arith)
 
-pub given-there : (usual ws : List ℕ) → (length ws ≡ 0 → ⊥) → ws ≡ inForce usual ws
-unfolding inForce
-given-there usual [] h = absurd (h refl)
-given-there usual (w ∷ ws) h = refl
+pub given-there : (default ws : List ℕ) → (length ws ≡ 0 → ⊥) → ws ≡ orDefault default ws
+unfolding orDefault
+given-there default [] h = absurd (h refl)
+given-there default (w ∷ ws) h = refl
 
 -- ---- one number
 
