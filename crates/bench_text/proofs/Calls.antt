@@ -19,8 +19,8 @@ use Rattle.job.specs.Printed.{printed, callText}
 use Rattle.job.proofs.Accepted.{accepted-ready}
 use Rattle.job.specs.Texts.{Texts}
 use Rattle.schedule.specs.declared.default_schedule.DefaultSchedule.{DefaultSchedule}
-use Rattle.schedule.specs.Loading.{pairsIn, initial}
-use Rattle.schedule.proofs.Loading.{loads, standard-fits}
+use Rattle.schedule.specs.DefaultSchedule.{pairsIn, initial}
+use Rattle.schedule.proofs.DefaultSchedule.{loads, standard-fits}
 use Rattle.bench_text.specs.Stored.{Stored}
 
 -- ---- numbers stored at an array's front

@@ -7,8 +7,8 @@ use Rattle.search.specs.declared.Answer.{Answer}
 use Rattle.search.specs.Call.{Memory, Call}
 use Rattle.schedule.specs.declared.default_schedule.DefaultSchedule.{DefaultSchedule}
 use Rattle.schedule.specs.declared.default_schedule.Loaded.{Loaded}
-use Rattle.schedule.specs.Loading.{loading}
-use Rattle.schedule.proofs.Loading.{loads}
+use Rattle.schedule.specs.DefaultSchedule.{loading}
+use Rattle.schedule.proofs.DefaultSchedule.{loads}
 use Rattle.planner.specs.Plan.{Planned}
 use Rattle.ffi_planner.specs.Calls.{answerFigures, Exported}
 use Rattle.ffi_planner.specs.House.{LoadedTo}

@@ -3,7 +3,7 @@
 ghost use mathlib.Core.Path.{_≡_};
 ghost use Rattle.planner.specs.Plan.{memoryOf, callOf};
 ghost use Rattle.job.specs.Texts.{Prints};
-ghost use Rattle.schedule.specs.Loading.{initial, loading};
+ghost use Rattle.schedule.specs.DefaultSchedule.{initial, loading};
 ghost use Rattle.ffi_planner.specs.Calls.{answerFigures, Exported};
 ghost use Rattle.ffi_planner.specs.House.{houseOf, LoadedTo};
 use schedule::default_schedule::DefaultSchedule;

@@ -3,7 +3,7 @@ ghost use Prim.Native.Nat.{_≤_};
 ghost use mathlib.Core.Path.{_≡_};
 ghost use lib.ListN.{length};
 ghost use Rattle.graph.specs.Lists.{over};
-ghost use Rattle.schedule.specs.Loading.{initial, loading};
+ghost use Rattle.schedule.specs.DefaultSchedule.{initial, loading};
 use crate::schedule_fails;
 
 // The default schedule: its first `count` numbers, W1, W2, W1, W2, ..

@@ -3,7 +3,7 @@ use Prim.Native.Nat.{_-_}
 use native.Mathlib.Omega.{arith}
 use mathlib.Core.Path.{_≡_}
 use lib.ListN.{length}
-use Rattle.schedule.proofs.Loading.{Laying, laying-first, laying-next, laying-all}
+use Rattle.schedule.proofs.DefaultSchedule.{Laying, laying-first, laying-next, laying-all}
 use borrow.Author.Needs.{needs}
 use Rattle.schedule.proofs.default_schedule.laid.Statement.{statement}
 use Rattle.schedule.proofs.default_schedule.laid.Tie as tie

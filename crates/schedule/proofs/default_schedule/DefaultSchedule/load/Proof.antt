@@ -1,6 +1,6 @@
 -- `load` meets its contract: the sheet is tested, then laid.
 use mathlib.Core.Path.{refl, sym, _∙_}
-use Rattle.schedule.proofs.Loading.{rejects, accepts, sheet-short}
+use Rattle.schedule.proofs.DefaultSchedule.{rejects, accepts, sheet-short}
 use borrow.Author.Needs.{needs}
 use Rattle.schedule.proofs.default_schedule.DefaultSchedule.load.Statement.{statement}
 use Rattle.schedule.proofs.default_schedule.DefaultSchedule.load.Tie as tie

@@ -1,7 +1,7 @@
 -- `standard` meets its contract: our six rounds, and zeros behind them.
 use mathlib.Core.Path.{refl}
 use Rattle.search.specs.Job.{standard}
-use Rattle.schedule.specs.Loading.{initial}
+use Rattle.schedule.specs.DefaultSchedule.{initial}
 use borrow.Author.Needs.{needs}
 use Rattle.schedule.proofs.default_schedule.DefaultSchedule.standard.Statement.{statement}
 use Rattle.schedule.proofs.default_schedule.DefaultSchedule.standard.Tie as tie

@@ -14,7 +14,7 @@ use Rattle.search.specs.Call.{Call, scheduleOf, outOfRange, rising, unfitSchedu
 use Rattle.search.specs.Admitted.{Schedule}
 use Rattle.search.proofs.Admitted.{schedules, job-schedule, force-default}
 use Rattle.schedule.specs.declared.default_schedule.DefaultSchedule.{DefaultSchedule}
-use Rattle.schedule.specs.Loading.{pairsIn, initial, loading, after, Rejected, Loads}
+use Rattle.schedule.specs.DefaultSchedule.{pairsIn, initial, loading, after, Rejected, Loads}
 
 -- ---- the loop
 
@@ -88,6 +88,11 @@ module _ (d : DefaultSchedule) (sheet : List ℕ) where
   taken-by true e a = absurd (true≢false (sym a ∙ accepted-by true e))
   taken-by false e a = rw e (pairs-over sheet (d .numbers))
 
+  counted-by : (b : Bool) → unfitSchedule sheet ≡ b → loading d sheet .accepted ≡ true → loading d sheet .schedule .count ≡ length sheet
+  unfolding loading
+  counted-by true e a = absurd (true≢false (sym a ∙ accepted-by true e))
+  counted-by false e a = rw e
+
   behind-by :
       (b : Bool) → unfitSchedule sheet ≡ b → loading d sheet .accepted ≡ true →
       drop (length sheet) (loading d sheet .schedule .numbers) ≡ drop (length sheet) (d .numbers)
@@ -157,6 +162,7 @@ loads =
     record {
       tested = λ d sheet. tested-by d sheet (unfitSchedule sheet) refl;
       taken = λ d sheet. taken-by d sheet (unfitSchedule sheet) refl;
+      counted = λ d sheet. counted-by d sheet (unfitSchedule sheet) refl;
       behind = λ d sheet. behind-by d sheet (unfitSchedule sheet) refl;
       kept = λ d sheet. kept-by d sheet (unfitSchedule sheet) refl;
       first = at-first;

@@ -35,12 +35,13 @@ after d (sheet ∷ sheets) = after (loading d sheet .schedule) sheets
 abbrev pub Rejected : List (List ℕ) → Type 0
 Rejected sheets = (sheet : List ℕ) → List·Memᴰ sheet sheets → Schedule sheet → ⊥
 
--- the sentences of E3 about loading; proved in proofs/Loading
+-- the sentences of E3 about loading; proved in proofs/DefaultSchedule
 pub record Loads : Type 0 where
   -- a sheet is tested by the rules for schedules, and an empty one is none
   pub tested : (d : DefaultSchedule) (sheet : List ℕ) → loading d sheet .accepted ≡ true ↔ Schedule sheet
-  -- an accepted sheet is what is in force, and the numbers behind it are as they were
+  -- an accepted sheet is what is in force, all of it is counted, and the numbers behind it are as they were
   pub taken : (d : DefaultSchedule) (sheet : List ℕ) → loading d sheet .accepted ≡ true → pairsIn (loading d sheet .schedule) ≡ sheet
+  pub counted : (d : DefaultSchedule) (sheet : List ℕ) → loading d sheet .accepted ≡ true → loading d sheet .schedule .count ≡ length sheet
   pub behind :
       (d : DefaultSchedule) (sheet : List ℕ) → loading d sheet .accepted ≡ true →
       drop (length sheet) (loading d sheet .schedule .numbers) ≡ drop (length sheet) (d .numbers)
@@ -54,7 +55,7 @@ pub record Loads : Type 0 where
       pairsIn (after d (sheets ++ sheet ∷ later)) ≡ sheet
   -- whatever sheets were loaded in whatever order, row 10 passes what is in force
   pub fit : (sheets : List (List ℕ)) → scheduleRow (pairsIn (after initial sheets)) ≡ none
-  -- and so passes a call without a schedule of its own that is handed it, whose rounds it is
+  -- and so a call without a schedule of its own that is handed it passes, and has its rounds
   pub served :
       (sheets : List (List ℕ)) (c : Call) → c .schedule ≡ [] → c .defaultSchedule ≡ pairsIn (after initial sheets) →
       (scheduleRow (scheduleOf c) ≡ none) × (jobOf c .schedule ≡ pairs (pairsIn (after initial sheets)))
