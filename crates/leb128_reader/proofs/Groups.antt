@@ -1,14 +1,14 @@
--- A plan number by its bytes, group by group: a byte below 128 ends it, and one of 0 or none ends it wrongly.
+-- A plan number by the values of its groups: x, y, z and u, of which each but the last has 128 added in its byte.
 use Prim.Native.Nat.{ℕ, suc, _+_, _*_, _-_, _^_, _≤_, _<_}
 use native.Mathlib.Omega.{arith}
-use mathlib.Core.Path.{_≡_, refl}
+use mathlib.Core.Path.{_≡_, refl, sym, ap, _∙_}
 use mathlib.Core.Logic.{⊎-elim}
 use mathlib.Core.List.{List}
 use lib.ListN.{length, getD, List·getD-eq-default}
 use Rattle.leb128.specs.Number.{planGroups, read}
 use Rattle.leb128.specs.declared.NumberRead.the-variants.{Value, Refused}
 use Rattle.leb128.proofs.Laws.{split}
-use Rattle.leb128.proofs.ReadAt.{Lost, lost-end, lost-none, found-last, found-more, lost-zero, lost-more, answer-value, answer-lost}
+use Rattle.leb128.proofs.ReadAt.{Found, Lost, lost-end, lost-none, found-last, found-more, lost-zero, lost-more, answer-value, answer-lost}
 
 -- ---- the byte at an offset, where 0 stands for none
 
@@ -27,9 +27,31 @@ zero-after k s at o here follows next z =
     (λ h. lost-more (suc k) s at o here follows next (lost-end (suc k) s o h))
     (split o (length s))
 
--- ---- the number: each byte before the last has its top bit set, which counts 128, 16384 and 2097152 in the groups' sum
+-- ---- one group, of k and one more that may stand
+
+module _ (k : ℕ) (s : List ℕ) (at o g : ℕ) (next : suc at ≡ o) where
+  -- it is the last; or another follows
+  ends : getD s at 0 ≡ g → at < length s → g < 128 → Found (suc k) s at g 1
+  ends e h l = rw (← e) (found-last k s at h (omega arith))
+
+  goes : (v n : ℕ) → getD s at 0 ≡ g + 128 → Found k s o v n → 1 ≤ v → Found (suc k) s at (g + 128 * v) (suc n)
+  goes v n e f p =
+      let q : getD s at 0 - 128 + 128 * v ≡ g + 128 * v = omega arith in
+      rw (← q) (found-more k s at o (inside s at (omega arith)) (omega arith) next v n f p)
+
+  loses : getD s at 0 ≡ g + 128 → Lost k s o → Lost (suc k) s at
+  loses e f = lost-more k s at o (inside s at (omega arith)) (omega arith) next f
+
+stops : (k : ℕ) (s : List ℕ) (at o g : ℕ) → suc at ≡ o → getD s at 0 ≡ g + 128 → getD s o 0 ≡ 0 → Lost (suc (suc k)) s at
+stops k s at o g next e z = zero-after k s at o (inside s at (omega arith)) (omega arith) next z
+
+-- ---- the number
 
 module _ (s : List ℕ) (at : ℕ) where
+  found : (n v w : ℕ) → Found 4 s at w n → w ≡ v → v < 2 ^ 32 → Value v (at + n) ≡ read planGroups s at
+  unfolding planGroups
+  found n v w f e h = answer-value 4 s at v n (rw (← e) f) h
+
   lost : Lost 4 s at → Refused at ≡ read planGroups s at
   unfolding planGroups
   lost f = answer-lost 4 s at f
@@ -37,82 +59,60 @@ module _ (s : List ℕ) (at : ℕ) where
   pub none : length s ≤ at → Refused at ≡ read planGroups s at
   none h = lost (lost-end 4 s at h)
 
-  module _ (h₁ : at < length s) where
-    pub one : getD s at 0 < 128 → Value (getD s at 0) (at + 1) ≡ read planGroups s at
-    unfolding planGroups
-    one l = answer-value 4 s at (getD s at 0) 1 (found-last 3 s at h₁ l) (omega arith)
+  pub one : (x : ℕ) → x < 128 → at < length s → getD s at 0 ≡ x → Value x (at + 1) ≡ read planGroups s at
+  one x l h e = found 1 x x (ends 3 s at (at + 1) x (omega arith) e h l) refl (omega arith)
 
-    module _ (f₁ : 128 ≤ getD s at 0) where
-      pub zero-2 : getD s (at + 1) 0 ≡ 0 → Refused at ≡ read planGroups s at
-      zero-2 z = lost (zero-after 2 s at (at + 1) h₁ f₁ (omega arith) z)
+  module _ (x : ℕ) (l₁ : x < 128) (e₁ : getD s at 0 ≡ x + 128) (y : ℕ) (l₂ : y < 128) where
+    n₁ : suc at ≡ at + 1
+    n₁ = omega arith
 
-      module _ (p₂ : 1 ≤ getD s (at + 1) 0) where
-        h₂ : at + 1 < length s
-        h₂ = inside s (at + 1) p₂
+    n₂ : suc (at + 1) ≡ at + 2
+    n₂ = omega arith
 
-        pub two :
-            getD s (at + 1) 0 < 128 → (v : ℕ) → v + 128 ≡ getD s at 0 + 128 * getD s (at + 1) 0 → v < 2 ^ 32 →
-            Value v (at + 2) ≡ read planGroups s at
-        unfolding planGroups
-        two l v e w =
-            let q : v ≡ getD s at 0 - 128 + 128 * getD s (at + 1) 0 = omega arith in
-            answer-value 4 s at v 2
-            (rw q (found-more 3 s at (at + 1) h₁ f₁ (omega arith) _ 1 (found-last 2 s (at + 1) h₂ l) p₂))
-            w
+    module _ (e₂ : getD s (at + 1) 0 ≡ y) where
+      pub zero-2 : x + y * 128 < 128 → Refused at ≡ read planGroups s at
+      zero-2 q = lost (stops 2 s at (at + 1) x n₁ e₁ (omega arith))
 
-        module _ (f₂ : 128 ≤ getD s (at + 1) 0) where
-          lost-2 : Lost 2 s (at + 2) → Lost 4 s at
-          lost-2 f = lost-more 3 s at (at + 1) h₁ f₁ (omega arith) (lost-more 2 s (at + 1) (at + 2) h₂ f₂ (omega arith) f)
+      pub two : 128 ≤ x + y * 128 → Value (x + y * 128) (at + 2) ≡ read planGroups s at
+      two q =
+          let p : 1 ≤ y = omega arith in
+          let f = ends 2 s (at + 1) (at + 2) y n₂ e₂ (inside s (at + 1) (omega arith)) l₂ in
+          found 2 (x + y * 128) (x + 128 * y) (goes 3 s at (at + 1) x n₁ y 1 e₁ f p) (omega arith) (omega arith)
 
-          pub zero-3 : getD s (at + 2) 0 ≡ 0 → Refused at ≡ read planGroups s at
-          zero-3 z = lost (lost-more 3 s at (at + 1) h₁ f₁ (omega arith) (zero-after 1 s (at + 1) (at + 2) h₂ f₂ (omega arith) z))
+    module _ (e₂ : getD s (at + 1) 0 ≡ y + 128) (z : ℕ) (l₃ : z < 128) where
+      n₃ : suc (at + 2) ≡ at + 3
+      n₃ = omega arith
 
-          module _ (p₃ : 1 ≤ getD s (at + 2) 0) where
-            h₃ : at + 2 < length s
-            h₃ = inside s (at + 2) p₃
+      lost-2 : Lost 2 s (at + 2) → Lost 4 s at
+      lost-2 f = loses 3 s at (at + 1) x n₁ e₁ (loses 2 s (at + 1) (at + 2) y n₂ e₂ f)
 
-            pub three :
-                getD s (at + 2) 0 < 128 → (v : ℕ) → v + 16512 ≡ getD s at 0 + 128 * getD s (at + 1) 0 + 16384 * getD s (at + 2) 0 →
-                v < 2 ^ 32 → Value v (at + 3) ≡ read planGroups s at
-            unfolding planGroups
-            three l v e w =
-                let q : v ≡ getD s at 0 - 128 + 128 * (getD s (at + 1) 0 - 128 + 128 * getD s (at + 2) 0) = omega arith in
-                answer-value 4 s at v 3
-                (rw q
-                (found-more 3 s at (at + 1) h₁ f₁ (omega arith) _ 2
-                (found-more 2 s (at + 1) (at + 2) h₂ f₂ (omega arith) _ 1 (found-last 1 s (at + 2) h₃ l) p₃)
-                (omega arith)))
-                w
+      found-2 : (v n : ℕ) → Found 2 s (at + 2) v n → 1 ≤ v → Found 4 s at (x + 128 * (y + 128 * v)) (suc (suc n))
+      found-2 v n f p = goes 3 s at (at + 1) x n₁ (y + 128 * v) (suc n) e₁ (goes 2 s (at + 1) (at + 2) y n₂ v n e₂ f p) (omega arith)
 
-            module _ (f₃ : 128 ≤ getD s (at + 2) 0) where
-              pub zero-4 : getD s (at + 3) 0 ≡ 0 → Refused at ≡ read planGroups s at
-              zero-4 z = lost (lost-2 (zero-after 0 s (at + 2) (at + 3) h₃ f₃ (omega arith) z))
+      module _ (e₃ : getD s (at + 2) 0 ≡ z) where
+        pub zero-3 : x + y * 128 + z * 16384 < 16384 → Refused at ≡ read planGroups s at
+        zero-3 q = lost (loses 3 s at (at + 1) x n₁ e₁ (stops 1 s (at + 1) (at + 2) y n₂ e₂ (omega arith)))
 
-              module _ (p₄ : 1 ≤ getD s (at + 3) 0) where
-                h₄ : at + 3 < length s
-                h₄ = inside s (at + 3) p₄
+        pub three : 16384 ≤ x + y * 128 + z * 16384 → Value (x + y * 128 + z * 16384) (at + 3) ≡ read planGroups s at
+        three q =
+            let p : 1 ≤ z = omega arith in
+            let f = ends 1 s (at + 2) (at + 3) z n₃ e₃ (inside s (at + 2) (omega arith)) l₃ in
+            found 3 (x + y * 128 + z * 16384) (x + 128 * (y + 128 * z)) (found-2 z 1 f p) (omega arith) (omega arith)
 
-                -- the fourth group is the last that may be
-                pub over : 128 ≤ getD s (at + 3) 0 → Refused at ≡ read planGroups s at
-                over f₄ =
-                    lost
-                    (lost-2
-                    (lost-more 1 s (at + 2) (at + 3) h₃ f₃ (omega arith)
-                    (lost-more 0 s (at + 3) (at + 4) h₄ f₄ (omega arith) (lost-none 0 s (at + 4) refl))))
+      module _ (e₃ : getD s (at + 2) 0 ≡ z + 128) (u : ℕ) (e₄ : getD s (at + 3) 0 ≡ u) where
+        pub zero-4 : u ≡ 0 → Refused at ≡ read planGroups s at
+        zero-4 q = lost (lost-2 (stops 0 s (at + 2) (at + 3) z n₃ e₃ (omega arith)))
 
-                pub four :
-                    getD s (at + 3) 0 < 128 → (v : ℕ) →
-                    v + 2113664 ≡ getD s at 0 + 128 * getD s (at + 1) 0 + 16384 * getD s (at + 2) 0 + 2097152 * getD s (at + 3) 0 →
-                    v < 2 ^ 32 → Value v (at + 4) ≡ read planGroups s at
-                unfolding planGroups
-                four l v e w =
-                    let q : v ≡ getD s at 0 - 128 + 128 * (getD s (at + 1) 0 - 128 + 128 * (getD s (at + 2) 0 - 128 + 128 * getD s (at + 3) 0))
-                    = omega arith in
-                    answer-value 4 s at v 4
-                    (rw q
-                    (found-more 3 s at (at + 1) h₁ f₁ (omega arith) _ 3
-                    (found-more 2 s (at + 1) (at + 2) h₂ f₂ (omega arith) _ 2
-                    (found-more 1 s (at + 2) (at + 3) h₃ f₃ (omega arith) _ 1 (found-last 0 s (at + 3) h₄ l) p₄)
-                    (omega arith))
-                    (omega arith)))
-                    w
+        -- the fourth group is the last that may be
+        pub over : 127 < u → Refused at ≡ read planGroups s at
+        over q =
+            let h = inside s (at + 3) (omega arith) in
+            let f = lost-more 0 s (at + 3) (at + 4) h (omega arith) (omega arith) (lost-none 0 s (at + 4) refl) in
+            lost (lost-2 (loses 1 s (at + 2) (at + 3) z n₃ e₃ f))
+
+        pub four : 1 ≤ u → u ≤ 127 → Value (x + y * 128 + z * 16384 + u * 2097152) (at + 4) ≡ read planGroups s at
+        four p q =
+            let f = ends 0 s (at + 3) (at + 4) u (omega arith) e₄ (inside s (at + 3) (omega arith)) (omega arith) in
+            found 4 (x + y * 128 + z * 16384 + u * 2097152) (x + 128 * (y + 128 * (z + 128 * u)))
+            (found-2 (z + 128 * u) 2 (goes 1 s (at + 2) (at + 3) z n₃ u 1 e₃ f p) (omega arith))
+            (omega arith) (omega arith)

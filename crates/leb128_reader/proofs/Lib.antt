@@ -1,1 +1,3 @@
+mod Bytes
 mod Groups
+mod WordFront

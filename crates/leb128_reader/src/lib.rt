@@ -1,56 +1,63 @@
 // One number read: a plan number, up to four groups; a number of a bench job, up to five.
+mod word;
+
+ghost use Prim.Native.Nat.{ℕ, _+_, _≤_, _<_};
 ghost use mathlib.Core.Path.{_≡_};
-ghost use lib.ListN.{getD};
-ghost use Rattle.leb128.specs.Number.{planGroups, read, jobGroups};
+ghost use mathlib.Core.List.{List};
+ghost use lib.ListN.{length};
+ghost use Rattle.leb128.specs.Number.{Bytes, planGroups, read, jobGroups};
+ghost use Rattle.leb128_reader.specs.Word.{wordAt};
 use leb128::NumberRead;
 
-// The byte at an offset, 0 past the end.
-fn byte_at(bytes: &[u8], at: usize) -> u32
-    ensures { λ r. ⌜ r ≡ getD (now (bytes .entry)) at 0 ⌝ }
-{
-    if at < bytes.len() {
-        bytes[at] as u32
-    } else {
-        0
-    }
-}
-
-// The plan number at an offset. After a group that another follows, 0 is refused: it is the last group of
-// a form that is not the shortest, or the bytes have ended.
+// The plan number at an offset: its end is found in the word there, of four bytes where they remain.
 pub fn read_plan_number(bytes: &[u8], at: usize) -> NumberRead
     ensures { λ r. ⌜ r ≡ read planGroups (now (bytes .entry)) at ⌝ }
 {
-    if bytes.len() <= at {
+    let word = if at < word::full(bytes) {
+        word::four_at(bytes, at)
+    } else {
+        if bytes.len() <= at {
+            return NumberRead::Refused(at);
+        }
+        word::left_at(bytes, at)
+    };
+    number_in(word, at)
+}
+
+// The plan number that begins a word, which stands at an offset. A last group of 0 is refused after another:
+// it is that of a form which is not the shortest, or the bytes have ended.
+fn number_in(word: u32, at: usize) -> NumberRead
+    requires { ⌜ at + 4 ≤ 18446744073709551615 ⌝ }
+    ensures { λ r. ⌜ ((s : List ℕ) → Bytes s → at < length s → word ≡ wordAt s at → r ≡ read planGroups s at) ⌝ }
+{
+    let first = at + 1;
+    if word / 128 % 2 == 0 {
+        return NumberRead::Value(word % 128, first);
+    }
+    let second = first + 1;
+    let two = word % 128 + word / 256 % 128 * 128;
+    if word / 32768 % 2 == 0 {
+        if two < 128 {
+            return NumberRead::Refused(at);
+        }
+        return NumberRead::Value(two, second);
+    }
+    let third = second + 1;
+    let three = two + word / 65536 % 128 * 16384;
+    if word / 8388608 % 2 == 0 {
+        if three < 16384 {
+            return NumberRead::Refused(at);
+        }
+        return NumberRead::Value(three, third);
+    }
+    let fourth = word / 16777216;
+    if fourth == 0 {
         return NumberRead::Refused(at);
     }
-    let a = bytes[at] as u32;
-    if a < 128 {
-        return NumberRead::Value(a, at + 1);
-    }
-    let b = byte_at(bytes, at + 1);
-    if b == 0 {
+    if 127 < fourth {
         return NumberRead::Refused(at);
     }
-    let two = a - 128 + 128 * b;
-    if b < 128 {
-        return NumberRead::Value(two, at + 2);
-    }
-    let c = byte_at(bytes, at + 2);
-    if c == 0 {
-        return NumberRead::Refused(at);
-    }
-    let three = two - 16384 + 16384 * c;
-    if c < 128 {
-        return NumberRead::Value(three, at + 3);
-    }
-    let d = byte_at(bytes, at + 3);
-    if d == 0 {
-        return NumberRead::Refused(at);
-    }
-    if 127 < d {
-        return NumberRead::Refused(at);
-    }
-    NumberRead::Value(three - 2097152 + 2097152 * d, at + 4)
+    NumberRead::Value(three + fourth * 2097152, third + 1)
 }
 
 // The number of a bench job at an offset.
