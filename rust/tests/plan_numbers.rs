@@ -1,6 +1,6 @@
-//! The reader of one plan number: every number and every damaged form at each
-//! distance from the end of the bytes, every short slice, offsets past the
-//! end, memory that ends with the bytes; and that faulty readers are told.
+//! The reader of one plan number: every number at each distance from the end
+//! of the bytes, every damaged form, every short slice, offsets past the end,
+//! memory that ends with the bytes; and that faulty readers are told.
 
 use std::env;
 use std::os::unix::process::ExitStatusExt;
@@ -83,8 +83,8 @@ fn library(laid: &Laid) -> Figures {
     Library.read_plan_number(laid.bytes(), laid.at)
 }
 
-/// Whether figures are equal, one by one: as whole lists they take longer, as
-/// they were written one by one.
+/// Whether figures are equal, one by one, as they are written: as lists they
+/// take twice the time of all reads.
 #[inline(always)]
 fn same(one: &Figures, other: &Figures) -> bool {
     one[0] == other[0] && one[1] == other[1] && one[2] == other[2] && one[3] == other[3]
@@ -228,6 +228,19 @@ fn numbers_of_five_groups(reader: &impl Reader, step: usize) -> Seen {
     seen
 }
 
+/// A fourth group that another follows, with any groups before it: all, or
+/// every so-manieth, each at one distance.
+fn words_without_end(reader: &impl Reader, step: usize) -> Seen {
+    let (mut seen, mut laid) = (Seen::default(), Laid::new());
+    for number in (0..NUMBERS).step_by(step) {
+        let at = number as usize % 5;
+        laid.lay(word_of(number, MORE[4]), 4, at, number);
+        laid.length += number as usize / 5 % DISTANCES;
+        seen.read(reader, &laid, Some([1, at as u64, 0, 0]));
+    }
+    seen
+}
+
 /// Slices of 0 to 3 bytes, all or every so-manieth, at offsets 0 to 4, which
 /// are past the end too.
 fn short_slices(reader: &impl Reader, step: usize) -> Seen {
@@ -291,6 +304,13 @@ fn numbers_of_five_groups_are_refused() {
     let reads = (1u64 << 21).div_ceil(31) * 128 * DISTANCES as u64;
     let seen = numbers_of_five_groups(&library, 31);
     seen.must_be_right("numbers_of_five_groups_are_refused", reads);
+}
+
+/// All words of four groups that another follows, each at one distance.
+#[test]
+fn every_word_without_end_is_refused() {
+    let seen = words_without_end(&library, 1);
+    seen.must_be_right("every_word_without_end_is_refused", NUMBERS.into());
 }
 
 /// All slices of 0 to 3 bytes.
@@ -465,30 +485,51 @@ enum Fault {
     RefusedWord,
 }
 
-const FAULTS: [Fault; 23] = [
-    Fault::WordOfThree,
-    Fault::MissingAsZero,
-    Fault::MissingAsOne,
-    Fault::Cut,
-    Fault::LeftBelowZero,
-    Fault::OffsetWraps,
-    Fault::OffsetOf32Bits,
-    Fault::Aligned,
-    Fault::LastFour,
-    Fault::HighestFirst,
-    Fault::SecondBitLow,
-    Fault::SecondMaskWide,
-    Fault::ByteBehind,
-    Fault::ThirdShift,
-    Fault::FourthMaskNarrow,
-    Fault::FourthBit,
-    Fault::ThirdOffset,
-    Fault::OffsetFromNumber,
-    Fault::SecondZero,
-    Fault::ThirdZero,
-    Fault::FourthZero,
-    Fault::LastByte,
-    Fault::RefusedWord,
+/// Each fault and the checks that tell it, at a fraction of their length.
+const FAULTS: [(Fault, &[&str]); 23] = [
+    (Fault::WordOfThree, &["cut", "short"]),
+    (Fault::MissingAsZero, &["short", "past"]),
+    (Fault::MissingAsOne, &["cut", "short", "past"]),
+    (Fault::Cut, &["cut", "short"]),
+    (Fault::LeftBelowZero, &["short", "past"]),
+    (Fault::OffsetWraps, &["past"]),
+    (Fault::OffsetOf32Bits, &["past"]),
+    (Fault::Aligned, &["numbers", "short"]),
+    (Fault::LastFour, &["numbers"]),
+    (Fault::HighestFirst, &["numbers", "short"]),
+    (
+        Fault::SecondBitLow,
+        &[
+            "numbers",
+            "cut",
+            "not shortest",
+            "five groups",
+            "without end",
+            "short",
+        ],
+    ),
+    (Fault::SecondMaskWide, &["numbers", "short"]),
+    (Fault::ByteBehind, &["numbers", "short"]),
+    (Fault::ThirdShift, &["numbers", "short"]),
+    (Fault::FourthMaskNarrow, &["numbers"]),
+    (Fault::FourthBit, &["five groups", "without end"]),
+    (Fault::ThirdOffset, &["numbers", "short"]),
+    (Fault::OffsetFromNumber, &["numbers", "short"]),
+    (Fault::SecondZero, &["not shortest", "short"]),
+    (Fault::ThirdZero, &["not shortest", "short"]),
+    (Fault::FourthZero, &["not shortest"]),
+    (Fault::LastByte, &["not shortest", "short"]),
+    (
+        Fault::RefusedWord,
+        &[
+            "cut",
+            "not shortest",
+            "five groups",
+            "without end",
+            "short",
+            "past",
+        ],
+    ),
 ];
 
 impl Fault {
@@ -501,21 +542,19 @@ impl Fault {
             _ => at,
         };
         let left = length.saturating_sub(from);
-        let whole = match self {
-            Fault::WordOfThree => left == 3,
-            Fault::LeftBelowZero => from > length,
-            Fault::OffsetWraps => from.wrapping_add(4) <= length,
-            _ => false,
+        let taken = match self {
+            Fault::WordOfThree if left == 3 => 4,
+            Fault::LeftBelowZero if from > length => 4,
+            Fault::OffsetWraps if from.wrapping_add(4) <= length => 4,
+            Fault::LastFour if left == 4 => 3,
+            _ => left,
         };
         let missing = match self {
             Fault::MissingAsZero => 0,
             Fault::MissingAsOne => 1,
-            Fault::LastFour if left == 4 => {
-                return [memory[from], memory[from + 1], memory[from + 2], 255]
-            }
             _ => 255,
         };
-        [0, 1, 2, 3].map(|index| match whole || index < left {
+        [0, 1, 2, 3].map(|index| match index < taken {
             true => memory[from.wrapping_add(index) % MEMORY],
             false => missing,
         })
@@ -525,7 +564,7 @@ impl Fault {
     fn groups(self, word: [u8; 4], left: usize) -> Option<usize> {
         let more = |index: usize| match (self, index) {
             (Fault::SecondBitLow, 1) => word[1] & 0x40 > 0,
-            (Fault::FourthBit, 3) => false,
+            (Fault::FourthBit, 3) if left >= 4 => false,
             _ => word[index] & 0x80 > 0,
         };
         let groups = (1..=4).find(|groups| !more(groups - 1));
@@ -592,6 +631,7 @@ fn told(fault: Fault) -> Vec<&'static str> {
         ("cut", cut_numbers(&reader, 101)),
         ("not shortest", numbers_not_shortest(&reader, 101)),
         ("five groups", numbers_of_five_groups(&reader, 10_007)),
+        ("without end", words_without_end(&reader, 10_007)),
         ("short", short_slices(&reader, 101)),
         ("past", offsets_past_the_end(&reader, 1)),
     ];
@@ -601,8 +641,12 @@ fn told(fault: Fault) -> Vec<&'static str> {
 
 #[test]
 fn each_faulty_reader_is_told() {
-    assert_eq!(told(Fault::None), [""; 0]);
-    for fault in FAULTS {
-        println!("{fault:?} {:?}", told(fault));
+    for (fault, checks) in FAULTS {
+        assert_eq!(told(fault), checks, "{fault:?}");
     }
+}
+
+#[test]
+fn a_reader_without_fault_is_not_told() {
+    assert_eq!(told(Fault::None), [""; 0]);
 }
