@@ -15,13 +15,12 @@ use secondcoop_tests::random::Random;
 
 /// Plan numbers are below this.
 const NUMBERS: u32 = 1 << 28;
-/// From none to so many bytes, less one, stand between a number and the end.
+/// 0 to 5 bytes stand between a number and the end.
 const DISTANCES: usize = 6;
-/// What the first one, two, three and four groups look like where another
-/// group follows each.
+/// The top bits of none to four groups that another group follows.
 const MORE: [u32; 5] = [0, 0x80, 0x8080, 0x80_8080, 0x8080_8080];
-/// What stands behind: groups that end a number and groups that do not, zeros
-/// and ones. Their count has no divisor in common with 128.
+/// What stands behind: groups that end a number and groups that do not. Their
+/// count is odd, so that each of them stands behind each group.
 const BEHIND: [u64; 11] = [
     0,
     u64::MAX,
@@ -35,6 +34,7 @@ const BEHIND: [u64; 11] = [
     0xC07F_40BF_FE01_8055,
     0x2A00_80AA_0381_FFFF,
 ];
+/// Bytes that hold a number, what is before it and what stands behind.
 const MEMORY: usize = 24;
 
 /// Bytes to read a number from, and what stands behind their end.
@@ -46,7 +46,7 @@ struct Laid {
 }
 
 impl Laid {
-    /// No bytes, and some before and behind every number.
+    /// Nothing laid yet; what stays before a number would not end one.
     fn new() -> Self {
         Laid {
             memory: [0x81; MEMORY],
@@ -172,7 +172,7 @@ fn read_numbers(reader: &impl Reader, numbers: impl Iterator<Item = u32>) -> See
     seen
 }
 
-/// The numbers of one to four groups, all of them or every so-manieth, shared
+/// The numbers of one to four groups, all of them or one in `step`, shared
 /// among the processors.
 fn numbers(reader: &impl Reader, step: u32) -> Seen {
     let threads = thread::available_parallelism().map_or(1, usize::from) as u32;
@@ -189,7 +189,7 @@ fn numbers(reader: &impl Reader, step: u32) -> Seen {
 }
 
 /// Bytes that end after one, two or three groups that another follows, at
-/// offsets 0 to 5: every such group, or every so-manieth.
+/// offsets 0 to 5: all such groups, or one in `step`.
 fn cut_numbers(reader: &impl Reader, step: usize) -> Seen {
     let (mut seen, mut laid) = (Seen::default(), Laid::new());
     let three = (1..=3).flat_map(|count| (0..1 << (7 * count)).map(move |low| (count, low)));
@@ -203,7 +203,7 @@ fn cut_numbers(reader: &impl Reader, step: usize) -> Seen {
 }
 
 /// A last group of zero after one, two or three others, at each distance: all
-/// others, or every so-manieth.
+/// such others, or one in `step`.
 fn numbers_not_shortest(reader: &impl Reader, step: usize) -> Seen {
     let (mut seen, mut laid) = (Seen::default(), Laid::new());
     let three = (1..=3).flat_map(|count| (0..1 << (7 * count)).map(move |low| (count, low)));
@@ -216,7 +216,7 @@ fn numbers_not_shortest(reader: &impl Reader, step: usize) -> Seen {
 }
 
 /// A fourth group that another follows, at each distance: each of the 128 such
-/// groups after every so-manieth of the three before it.
+/// groups after one in `step` of the three before it.
 fn numbers_of_five_groups(reader: &impl Reader, step: usize) -> Seen {
     let (mut seen, mut laid) = (Seen::default(), Laid::new());
     let low = (0..1 << 21).step_by(step);
@@ -228,8 +228,8 @@ fn numbers_of_five_groups(reader: &impl Reader, step: usize) -> Seen {
     seen
 }
 
-/// A fourth group that another follows, with any groups before it: all, or
-/// every so-manieth, each at one distance.
+/// A fourth group that another follows, with any groups before it: all, or one
+/// in `step`, each at one distance.
 fn words_without_end(reader: &impl Reader, step: usize) -> Seen {
     let (mut seen, mut laid) = (Seen::default(), Laid::new());
     for number in (0..NUMBERS).step_by(step) {
@@ -241,8 +241,8 @@ fn words_without_end(reader: &impl Reader, step: usize) -> Seen {
     seen
 }
 
-/// Slices of 0 to 3 bytes, all or every so-manieth, at offsets 0 to 4, which
-/// are past the end too.
+/// Slices of 0 to 3 bytes, all or one in `step`, at offsets 0 to 4, which are
+/// past the end too.
 fn short_slices(reader: &impl Reader, step: usize) -> Seen {
     let (mut seen, mut laid) = (Seen::default(), Laid::new());
     let all = (0..=3).flat_map(|count| (0..1 << (8 * count)).map(move |word| (count, word)));
@@ -259,10 +259,10 @@ fn short_slices(reader: &impl Reader, step: usize) -> Seen {
 
 /// Offsets at and past the end of 0 to 8 bytes: near it, at the greatest
 /// offsets, and where 32 bits would lead back to the bytes.
-fn offsets_past_the_end(reader: &impl Reader, step: usize) -> Seen {
+fn offsets_past_the_end(reader: &impl Reader) -> Seen {
     let (mut seen, mut laid) = (Seen::default(), Laid::new());
     let lengths = (0..=8).flat_map(|length| (0..11).map(move |salt| (length, salt)));
-    for (length, salt) in lengths.step_by(step) {
+    for (length, salt) in lengths {
         laid.lay(BEHIND[salt as usize] as u32, 4, 0, salt);
         laid.length = length;
         let near = (0..=4).map(|more| length + more);
@@ -323,7 +323,7 @@ fn every_short_slice_is_read_alike() {
 #[test]
 fn offsets_past_the_end_are_refused() {
     let reads = 9 * 11 * (5 + 9 + 18);
-    offsets_past_the_end(&library, 1).must_be_right("offsets_past_the_end_are_refused", reads);
+    offsets_past_the_end(&library).must_be_right("offsets_past_the_end_are_refused", reads);
 }
 
 /// Reads at each offset of 1 to 8 bytes, and just past them, with memory that
@@ -339,16 +339,9 @@ fn read_between_fences(reader: impl Fn(&[u8], usize) -> Figures) -> u64 {
             .collect();
         for at in 0..length + 5 {
             let right = Reference.read_plan_number(&bytes, at);
-            assert_eq!(
-                reader(fenced.at_the_end(&bytes), at),
-                right,
-                "{bytes:?} at {at}"
-            );
-            assert_eq!(
-                reader(fenced.at_the_front(&bytes), at),
-                right,
-                "{bytes:?} at {at}"
-            );
+            let at_the_end = reader(fenced.at_the_end(&bytes), at);
+            let at_the_front = reader(fenced.at_the_front(&bytes), at);
+            assert_eq!([at_the_end, at_the_front], [right; 2], "{bytes:?} at {at}");
             reads += 2;
         }
     }
@@ -394,14 +387,9 @@ fn touch_beyond(which: &str, bytes: &[u8], at: usize) {
         "before" => bytes.len() as isize - 4,
         _ => return,
     };
-    // SAFETY: there is none, and the process is there to find that out.
-    unsafe {
-        bytes
-            .as_ptr()
-            .offset(first)
-            .cast::<[u8; 4]>()
-            .read_volatile()
-    };
+    let word = bytes.as_ptr().wrapping_offset(first).cast::<[u8; 4]>();
+    // SAFETY: there is none, and the process is there to be ended for it.
+    unsafe { word.read_volatile() };
 }
 
 /// A process whose reader touches bytes beyond its slice is ended for it, and
@@ -633,7 +621,7 @@ fn told(fault: Fault) -> Vec<&'static str> {
         ("five groups", numbers_of_five_groups(&reader, 10_007)),
         ("without end", words_without_end(&reader, 10_007)),
         ("short", short_slices(&reader, 101)),
-        ("past", offsets_past_the_end(&reader, 1)),
+        ("past", offsets_past_the_end(&reader)),
     ];
     let wrong = seen.into_iter().filter(|(_, seen)| seen.wrong.is_some());
     wrong.map(|(name, _)| name).collect()
