@@ -34,6 +34,7 @@ pub trait Codec {
 pub struct Library;
 
 impl Codec for Library {
+    #[inline]
     fn read_plan_number(&self, bytes: &[u8], at: usize) -> Figures {
         ffi::read_plan_number(bytes, at)
     }
@@ -92,6 +93,7 @@ pub fn one_value(answer: Result<usize, Refusal>) -> Figures {
 }
 
 impl Codec for Reference {
+    #[inline]
     fn read_plan_number(&self, bytes: &[u8], at: usize) -> Figures {
         two_values(reference::read_plan_number(bytes, at))
     }

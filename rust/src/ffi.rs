@@ -113,6 +113,7 @@ struct GuardedFigures<const N: usize> {
 }
 
 /// Runs a call with guarded figures.
+#[inline]
 fn figures_of<const N: usize>(call: impl FnOnce(*mut u64)) -> [u64; N] {
     let mut guarded = GuardedFigures {
         before: [GUARD; 2],
@@ -122,11 +123,13 @@ fn figures_of<const N: usize>(call: impl FnOnce(*mut u64)) -> [u64; N] {
     let all: *mut GuardedFigures<N> = &mut guarded;
     // SAFETY: the pointer is that of the live figures.
     call(unsafe { &raw mut (*all).figures }.cast());
-    let guards = [guarded.before, guarded.after];
-    assert_eq!(guards, [[GUARD; 2]; 2], "figures written out of bounds");
+    // One by one: a list of both takes longer than the shortest call.
+    let whole = guarded.before == [GUARD; 2] && guarded.after == [GUARD; 2];
+    assert!(whole, "figures written out of bounds");
     guarded.figures
 }
 
+#[inline]
 pub fn read_plan_number(bytes: &[u8], at: usize) -> Figures {
     // SAFETY: the pointers and lengths are those of live slices.
     figures_of(|figures| unsafe {
