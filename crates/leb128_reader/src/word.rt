@@ -28,10 +28,14 @@ pub fn four_at(bytes: &[u8], at: usize) -> u32
 }
 
 // The byte at an offset, 0 past the end.
-fn byte_at(bytes: &[u8], at: usize) -> u8
+fn byte_at(bytes: &[u8], at: usize) -> u32
     ensures { λ r. ⌜ r ≡ getD (now (bytes .entry)) at 0 ⌝ }
 {
-    if at < bytes.len() { bytes[at] } else { 0 }
+    if at < bytes.len() {
+        bytes[at] as u32
+    } else {
+        0
+    }
 }
 
 // The word at an offset where one, two or three bytes remain.
@@ -39,5 +43,5 @@ pub fn left_at(bytes: &[u8], at: usize) -> u32
     requires { ⌜ (at < length (now bytes)) × (length (now bytes) ≤ at + 3) ⌝ }
     ensures { λ r. ⌜ r ≡ wordAt (now (bytes .entry)) at ⌝ }
 {
-    join(bytes[at], byte_at(bytes, at + 1), byte_at(bytes, at + 2), 0)
+    bytes[at] as u32 + 256 * byte_at(bytes, at + 1) + 65536 * byte_at(bytes, at + 2)
 }
