@@ -71,6 +71,17 @@ pub fn random_cost(random: &mut Random) -> u32 {
     }
 }
 
+/// A cost of so many groups; of three only those that plans had before there
+/// were costs of four.
+pub fn cost_of_groups(random: &mut Random, groups: u64) -> u32 {
+    match groups {
+        1 => random.range32(0, 127),
+        2 => random.range32(128, 16_383),
+        3 => random.range32(16_384, 1_000_000),
+        _ => random.range32(2_097_152, 16_000_000),
+    }
+}
+
 /// A valid plan; `edges` is at most V·V and 32,768.
 pub fn random_plan(random: &mut Random, vertices: u32, edges: usize) -> Plan {
     let pairs = u64::from(vertices) * u64::from(vertices);

@@ -6,7 +6,7 @@ use std::hint::black_box;
 use std::time::Instant;
 
 use secondcoop_tests::compare::{Codec, Library, Reference};
-use secondcoop_tests::generate::Plan;
+use secondcoop_tests::generate::{cost_of_groups, Plan};
 use secondcoop_tests::random::Random;
 
 /// The largest plan.
@@ -28,17 +28,6 @@ fn write(plan: &Plan, side: &dyn Codec, out: &mut [u8]) -> [u64; 4] {
         classes,
     } = plan;
     side.write_plan(*vertices, tails, heads, costs, classes, out)
-}
-
-/// A cost of so many groups; of three only those that plans had before there
-/// were costs of four.
-fn cost_of(random: &mut Random, groups: u64) -> u32 {
-    match groups {
-        1 => random.range32(0, 127),
-        2 => random.range32(128, 16_383),
-        3 => random.range32(16_384, 1_000_000),
-        _ => random.range32(2_097_152, 16_000_000),
-    }
 }
 
 /// So many heads, in order.
@@ -83,7 +72,7 @@ fn largest_plan(cost: impl FnMut(&mut Random) -> u32) -> Plan {
 /// An edge for every pair, each number of it of one group.
 fn plan_of_one_group() -> Plan {
     let heads = |_: &mut Random| (0..FEW_VERTICES).collect();
-    plan_of(FEW_VERTICES, heads, |random| cost_of(random, 1))
+    plan_of(FEW_VERTICES, heads, |random| cost_of_groups(random, 1))
 }
 
 /// Nanoseconds an edge of one run of `CALLS` calls.
@@ -176,7 +165,7 @@ fn main() {
         println!("costs of one to {most} groups");
         let plan = largest_plan(|random| {
             let groups = 1 + random.below(most);
-            cost_of(random, groups)
+            cost_of_groups(random, groups)
         });
         compare_reading(&plan);
         compare_writing(&plan);
@@ -184,7 +173,7 @@ fn main() {
     let words = ["one group", "two groups", "three groups", "four groups"];
     for (groups, words) in (1..).zip(words) {
         println!("costs of {words} each");
-        compare_reading(&largest_plan(|random| cost_of(random, groups)));
+        compare_reading(&largest_plan(|random| cost_of_groups(random, groups)));
     }
     println!("numbers of one group, {FEW_VERTICES} vertices");
     compare_reading(&plan_of_one_group());

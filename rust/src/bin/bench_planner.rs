@@ -1,12 +1,13 @@
 //! Times whole planner calls of the library under test against the second
-//! planner, which finds its least keys by the same scans. A program, not a
-//! test: its figures are for reading.
+//! planner, which finds its least keys by the same scans; with the argument
+//! `loads`, only those that end before the first turn. A program, not a test:
+//! its figures are for reading.
 
 use std::hint::black_box;
 
 use secondcoop_tests::clock::thread_time;
 use secondcoop_tests::dijkstra;
-use secondcoop_tests::generate::Plan;
+use secondcoop_tests::generate::{cost_of_groups, Plan};
 use secondcoop_tests::jobs::Job;
 use secondcoop_tests::planner::{Figures, Memory, MOST_OPINION, NO_OPINION};
 use secondcoop_tests::planners::{Library, Planner, SecondPlanner};
@@ -23,9 +24,14 @@ const RUN_TIME: f64 = 50_000_000.0;
 const RAMP: u32 = 7;
 
 /// A floor of width × height vertices, which closes round at its edges; from
-/// each vertex edges lead to its eight neighbours. One edge in twenty is a
-/// ramp.
-fn floor(random: &mut Random, width: u32, height: u32) -> Plan {
+/// each vertex edges of such costs lead to its eight neighbours. One edge in
+/// twenty is a ramp.
+fn floor(
+    random: &mut Random,
+    width: u32,
+    height: u32,
+    mut cost: impl FnMut(&mut Random) -> u32,
+) -> Plan {
     let mut plan = Plan::without_edges(width * height);
     for tail in 0..plan.vertices {
         let (x, y) = (tail % width, tail / width);
@@ -39,7 +45,7 @@ fn floor(random: &mut Random, width: u32, height: u32) -> Plan {
         for head in heads {
             plan.tails.push(tail);
             plan.heads.push(head);
-            plan.costs.push(random.range32(100, 1_000));
+            plan.costs.push(cost(random));
         }
     }
     // Costs and sheets are those of the floors before there were classes.
@@ -68,7 +74,8 @@ enum Sheets {
 /// of 60 hundredths of the true distances, and turns without end.
 fn job(seed: u64, width: u32, height: u32, sheets: Sheets) -> Job {
     let mut random = Random::new(seed);
-    let plan = floor(&mut random, width, height);
+    let cost = |random: &mut Random| random.range32(100, 1_000);
+    let plan = floor(&mut random, width, height, cost);
     let (start, goal) = (0, width / 2 + height / 2 * width);
     let distances: Vec<u32> = dijkstra::distances_to(&plan, goal, dijkstra::NO_BAR)
         .into_iter()
@@ -182,17 +189,59 @@ fn print_line(name: &str, job: &Job, rounds: u64, turns: u64, times: &Times) -> 
     turn
 }
 
-/// Times a job's call; gives the nanoseconds of a turn.
-fn compare(name: &str, job: &Job) -> [f64; 2] {
+/// Times a job's call, which both sides answer alike.
+fn times_of_call(job: &Job) -> (Figures, Times) {
     let mut lent = Lent::of(job);
     let figures = lent.call(&SecondPlanner, job);
     let mut other = Lent::of(job);
     assert_eq!(other.call(&Library, job), figures);
     assert!(other.route == lent.route && other.log == lent.log);
     assert!(other.work == lent.work && other.wide == lent.wide);
-    let [_, _, _, _, _, rounds, turns, _] = figures;
     let times = times(|side| assert_eq!(black_box(lent.call(side, job)), figures));
+    (figures, times)
+}
+
+/// Times a job's call; gives the nanoseconds of a turn.
+fn compare(name: &str, job: &Job) -> [f64; 2] {
+    let ([_, _, _, _, _, rounds, turns, _], times) = times_of_call(job);
     print_line(name, job, rounds, turns, &times)
+}
+
+/// Times a call that ends before its first turn: it checks and loads a plan
+/// with costs of these counts of groups in equal parts.
+fn compare_load(name: &str, (width, height): (u32, u32), groups: &[u64]) {
+    let cost = |random: &mut Random| {
+        let count = groups[random.below(groups.len() as u64) as usize];
+        cost_of_groups(random, count)
+    };
+    let plan = floor(&mut Random::new(7), width, height, cost);
+    let anchor = vec![0; plan.vertices as usize];
+    let job = Job::new(&plan, 0, 1, anchor, vec![], 0, vec![], 0);
+    let ([_, _, _, _, _, _, turns, _], times) = times_of_call(&job);
+    assert_eq!(turns, 0);
+    let [library, second] = [times.library, times.second].map(|time| time / plan.edges() as f64);
+    println!(
+        "{name:<22} {:>6} {library:>10.2} {second:>10.2} {:>7.3}",
+        plan.vertices, times.ratio,
+    );
+}
+
+/// Times loading: by the groups of costs, and on smaller floors.
+fn compare_loads() {
+    println!(
+        "Calls on such floors without guides that end before the first turn, by the groups of \
+         the costs: ns per edge."
+    );
+    println!(
+        "{:<22} {:>6} {:>10} {:>10} {:>7}",
+        "costs", "V", "library", "second", "ratio"
+    );
+    for groups in 1..=4 {
+        compare_load(&format!("of {groups}"), (64, 64), &[groups]);
+    }
+    for size in [(64, 64), (32, 32), (16, 16), (8, 8)] {
+        compare_load("of 1 to 4", size, &[1, 2, 3, 4]);
+    }
 }
 
 /// Times the bench program's text of a job.
@@ -212,6 +261,9 @@ fn compare_text(name: &str, job: &Job) {
 }
 
 fn main() {
+    if std::env::args().nth(1).as_deref() == Some("loads") {
+        return compare_loads();
+    }
     println!(
         "Whole calls on floors with eight edges at each vertex, eight guides, standard schedule, \
          nothing barred but in the last rows, which bar the class of one edge in twenty; halved \
@@ -246,4 +298,5 @@ fn main() {
         barred.barred = 1 << RAMP;
         compare(&format!("{name}, ramps barred"), &barred);
     }
+    compare_loads();
 }
