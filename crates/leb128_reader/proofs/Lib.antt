@@ -1,3 +1,2 @@
-mod Bytes
 mod Groups
-mod WordFront
+mod WordBytes

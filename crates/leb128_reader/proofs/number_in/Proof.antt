@@ -1,15 +1,32 @@
 -- `number_in` meets its contract: each answer follows the bits tested so far.
+use Prim.Native.Nat.{ℕ, _+_}
 use native.Mathlib.Omega.{arith}
+use mathlib.Core.Path.{_≡_, ap, _∙_}
+use Rattle.leb128.specs.declared.NumberRead.the-variants.{Value}
+use Rattle.leb128_reader.proofs.Groups.{one, zero-2, two, zero-3, three, zero-4, over, four}
+use Rattle.leb128_reader.proofs.WordBytes.{small, last-1, more-1, last-2, more-2, last-3, more-3, whole-4}
 use borrow.Author.Needs.{needs}
-use Rattle.leb128_reader.proofs.WordFront.{one, zero-2, two, zero-3, three, zero-4, over, four}
 use Rattle.leb128_reader.proofs.number_in.Statement.{statement}
 use Rattle.leb128_reader.proofs.number_in.Tie as tie
+
+-- the offset past two, three and four groups, as it is counted
+counted : (v m n : ℕ) → m ≡ n → Value v m ≡ Value v n
+counted v m n e = ap (Value v) e
+
+past-2 : (at : ℕ) → at + 1 + 1 ≡ at + 2
+past-2 at = omega arith
+
+past-3 : (at : ℕ) → at + 1 + 1 + 1 ≡ at + 3
+past-3 at = omega arith
+
+past-4 : (at : ℕ) → at + 1 + 1 + 1 + 1 ≡ at + 4
+past-4 at = omega arith
 
 add-first : tie.Need-add-first
 add-first c = search needs
 
 returns : tie.Need-returns
-returns c = λ s f h e. one _ _ s f h e (c .if1 .taken)
+returns c = λ s f h e. one s _ _ (small _) h (last-1 _ _ s f e (c .if1 .taken))
 
 add-second : tie.Need-add-second
 add-second c = search needs
@@ -21,10 +38,16 @@ add-two : tie.Need-add-two
 add-two c = search needs
 
 returns-2 : tie.Need-returns-2
-returns-2 c = λ s f h e. zero-2 _ _ s f h e (c .before .before .if1 .left) (c .before .if2 .taken) (c .if3 .taken)
+returns-2 c =
+    let t₁ = c .before .before .if1 .left in
+    let t₂ = c .before .if2 .taken in
+    λ s f h e. zero-2 s _ _ (small _) (more-1 _ _ s f e t₁) _ (small _) (last-2 _ _ s f e t₂) (c .if3 .taken)
 
 returns-3 : tie.Need-returns-3
-returns-3 c = λ s f h e. two _ _ s f h e (c .before .before .if1 .left) (c .before .if2 .taken) (c .if3 .left)
+returns-3 c =
+    let t₁ = c .before .before .if1 .left in
+    let t₂ = c .before .if2 .taken in
+    λ s f h e. counted _ _ _ (past-2 _) ∙ two s _ _ (small _) (more-1 _ _ s f e t₁) _ (small _) (last-2 _ _ s f e t₂) (c .if3 .left)
 
 add-third : tie.Need-add-third
 add-third c = search needs
@@ -36,17 +59,33 @@ add-three : tie.Need-add-three
 add-three c = search needs
 
 returns-4 : tie.Need-returns-4
-returns-4 c = λ s f h e. zero-3 _ _ s f h e (c .before .before .before .if1 .left) (c .before .before .if2 .left) (c .before .if4 .taken) (c .if5 .taken)
+returns-4 c =
+    let t₁ = c .before .before .before .if1 .left in
+    let t₂ = c .before .before .if2 .left in
+    let t₃ = c .before .if4 .taken in
+    λ s f h e. zero-3 s _ _ (small _) (more-1 _ _ s f e t₁) _ (small _) (more-2 _ _ s f e t₂) _ (small _) (last-3 _ _ s f e t₃) (c .if5 .taken)
 
 returns-5 : tie.Need-returns-5
-returns-5 c = λ s f h e. three _ _ s f h e (c .before .before .before .if1 .left) (c .before .before .if2 .left) (c .before .if4 .taken) (c .if5 .left)
+returns-5 c =
+    let t₁ = c .before .before .before .if1 .left in
+    let t₂ = c .before .before .if2 .left in
+    let t₃ = c .before .if4 .taken in
+    λ s f h e. counted _ _ _ (past-3 _) ∙ three s _ _ (small _) (more-1 _ _ s f e t₁) _ (small _) (more-2 _ _ s f e t₂) _ (small _) (last-3 _ _ s f e t₃) (c .if5 .left)
 
 returns-6 : tie.Need-returns-6
-returns-6 c = λ s f h e. zero-4 _ _ s f h e (c .before .before .before .if1 .left) (c .before .before .if2 .left) (c .before .if4 .left) (c .if6 .taken)
+returns-6 c =
+    let t₁ = c .before .before .before .if1 .left in
+    let t₂ = c .before .before .if2 .left in
+    let t₃ = c .before .if4 .left in
+    λ s f h e. zero-4 s _ _ (small _) (more-1 _ _ s f e t₁) _ (small _) (more-2 _ _ s f e t₂) _ (small _) (more-3 _ _ s f e t₃) _ (whole-4 _ _ s f e) (c .if6 .taken)
 
 returns-7 : tie.Need-returns-7
 returns-7 c =
-    λ s f h e. over _ _ s f h e (c .before .before .before .before .if1 .left) (c .before .before .before .if2 .left) (c .before .before .if4 .left) (c .if7 .taken)
+    let k = c .before in
+    let t₁ = k .before .before .before .if1 .left in
+    let t₂ = k .before .before .if2 .left in
+    let t₃ = k .before .if4 .left in
+    λ s f h e. over s _ _ (small _) (more-1 _ _ s f e t₁) _ (small _) (more-2 _ _ s f e t₂) _ (small _) (more-3 _ _ s f e t₃) _ (whole-4 _ _ s f e) (c .if7 .taken)
 
 mul-t10 : tie.Need-mul-t10
 mul-t10 c = search needs
@@ -60,8 +99,14 @@ add-t17 c = search needs
 returns-8 : tie.Need-returns-8
 returns-8 c =
     let k = c .before in
-    let p = k .if6 .left in
-    λ s f h e. four _ _ s f h e (k .before .before .before .if1 .left) (k .before .before .if2 .left) (k .before .if4 .left) (omega (arith, p)) (c .if7 .left)
+    let t₁ = k .before .before .before .if1 .left in
+    let t₂ = k .before .before .if2 .left in
+    let t₃ = k .before .if4 .left in
+    let t₄ = k .if6 .left in
+    λ s f h e.
+    counted _ _ _ (past-4 _)
+    ∙ four s _ _ (small _) (more-1 _ _ s f e t₁) _ (small _) (more-2 _ _ s f e t₂) _ (small _) (more-3 _ _ s f e t₃) _ (whole-4 _ _ s f e)
+    (omega (arith, t₄)) (c .if7 .left)
 
 pub number-in-spec : {M : Type 1} → statement M
 number-in-spec =

@@ -1,9 +1,7 @@
 -- `read_plan_number` meets its contract: its word is the one at the offset, whichever bytes it was made of.
 use native.Mathlib.Omega.{arith}
-use mathlib.Core.Path.{_≡_, _∙_}
+use mathlib.Core.Path.{_∙_}
 use mathlib.Core.Logic.{⊎-elim}
-use lib.ListN.{length}
-use Prim.Native.Nat.{_+_, _≤_, _<_}
 use borrow.Author.Needs.{needs}
 use Rattle.leb128.specs.Number.{Bytes}
 use Rattle.leb128_reader.proofs.Groups.{none}
