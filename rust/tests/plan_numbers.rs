@@ -188,12 +188,16 @@ fn numbers(reader: &impl Reader, step: u32) -> Seen {
     seen
 }
 
+/// One, two or three groups of every value: their count, and their bits.
+fn one_to_three_groups() -> impl Iterator<Item = (usize, u32)> {
+    (1..=3).flat_map(|count| (0..1 << (7 * count)).map(move |low| (count, low)))
+}
+
 /// Bytes that end after one, two or three groups that another follows, at
 /// offsets 0 to 5: all such groups, or one in `step`.
 fn cut_numbers(reader: &impl Reader, step: usize) -> Seen {
     let (mut seen, mut laid) = (Seen::default(), Laid::new());
-    let three = (1..=3).flat_map(|count| (0..1 << (7 * count)).map(move |low| (count, low)));
-    for (count, low) in three.step_by(step) {
+    for (count, low) in one_to_three_groups().step_by(step) {
         for at in 0..6 {
             laid.lay(word_of(low, MORE[count]), count, at, low + at as u32);
             seen.read(reader, &laid, Some([1, at as u64, 0, 0]));
@@ -206,8 +210,7 @@ fn cut_numbers(reader: &impl Reader, step: usize) -> Seen {
 /// such others, or one in `step`.
 fn numbers_not_shortest(reader: &impl Reader, step: usize) -> Seen {
     let (mut seen, mut laid) = (Seen::default(), Laid::new());
-    let three = (1..=3).flat_map(|count| (0..1 << (7 * count)).map(move |low| (count, low)));
-    for (count, low) in three.step_by(step) {
+    for (count, low) in one_to_three_groups().step_by(step) {
         let at = low as usize % 5;
         laid.lay(word_of(low, MORE[count]), count + 1, at, low);
         seen.read_at_each_distance(reader, &mut laid, [1, at as u64, 0, 0]);

@@ -9,18 +9,9 @@ use borrow.Author.Needs.{needs}
 use Rattle.leb128_reader.proofs.number_in.Statement.{statement}
 use Rattle.leb128_reader.proofs.number_in.Tie as tie
 
--- the offset past two, three and four groups, as it is counted
+-- the offset past a number, as it is counted
 counted : (v m n : ℕ) → m ≡ n → Value v m ≡ Value v n
 counted v m n e = ap (Value v) e
-
-past-2 : (at : ℕ) → at + 1 + 1 ≡ at + 2
-past-2 at = omega arith
-
-past-3 : (at : ℕ) → at + 1 + 1 + 1 ≡ at + 3
-past-3 at = omega arith
-
-past-4 : (at : ℕ) → at + 1 + 1 + 1 + 1 ≡ at + 4
-past-4 at = omega arith
 
 add-first : tie.Need-add-first
 add-first c = search needs
@@ -47,7 +38,7 @@ returns-3 : tie.Need-returns-3
 returns-3 c =
     let t₁ = c .before .before .if1 .left in
     let t₂ = c .before .if2 .taken in
-    λ s f h e. counted _ _ _ (past-2 _) ∙ two s _ _ (small _) (more-1 _ _ s f e t₁) _ (small _) (last-2 _ _ s f e t₂) (c .if3 .left)
+    λ s f h e. counted _ _ _ (omega arith) ∙ two s _ _ (small _) (more-1 _ _ s f e t₁) _ (small _) (last-2 _ _ s f e t₂) (c .if3 .left)
 
 add-third : tie.Need-add-third
 add-third c = search needs
@@ -70,7 +61,7 @@ returns-5 c =
     let t₁ = c .before .before .before .if1 .left in
     let t₂ = c .before .before .if2 .left in
     let t₃ = c .before .if4 .taken in
-    λ s f h e. counted _ _ _ (past-3 _) ∙ three s _ _ (small _) (more-1 _ _ s f e t₁) _ (small _) (more-2 _ _ s f e t₂) _ (small _) (last-3 _ _ s f e t₃) (c .if5 .left)
+    λ s f h e. counted _ _ _ (omega arith) ∙ three s _ _ (small _) (more-1 _ _ s f e t₁) _ (small _) (more-2 _ _ s f e t₂) _ (small _) (last-3 _ _ s f e t₃) (c .if5 .left)
 
 returns-6 : tie.Need-returns-6
 returns-6 c =
@@ -104,7 +95,7 @@ returns-8 c =
     let t₃ = k .before .if4 .left in
     let t₄ = k .if6 .left in
     λ s f h e.
-    counted _ _ _ (past-4 _)
+    counted _ _ _ (omega arith)
     ∙ four s _ _ (small _) (more-1 _ _ s f e t₁) _ (small _) (more-2 _ _ s f e t₂) _ (small _) (more-3 _ _ s f e t₃) _ (whole-4 _ _ s f e)
     (omega (arith, t₄)) (c .if7 .left)
 
