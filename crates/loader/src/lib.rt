@@ -6,7 +6,7 @@ ghost use lib.Seq.{sets};
 ghost use Rattle.graph.specs.declared.PlanRead.the-variants.{Sizes};
 ghost use Rattle.graph.specs.Plan.{firstAt, nextEdge, edgesFrom, sizes};
 ghost use Rattle.graph.specs.Lists.{over, edgesIn};
-ghost use Rattle.plan_check.specs.Past.{cursorPast};
+ghost use Rattle.plan_check.specs.Past.{HasNext, cursorPast};
 ghost use Rattle.workspace.specs.Layout.{base, graphWords};
 ghost use Rattle.loader.specs.Stored.{edgeStored};
 use graph::Cursor;
@@ -30,11 +30,12 @@ fn fill_first(work: &mut [u32], from: usize, to: usize, j: u32)
 // Edge j, and the cursor past it.
 fn load_edge(bytes: &[u8], work: &mut [u32], z: Size, cursor: Cursor, j: u32) -> Cursor
     requires { ⌜ (base z ≤ length (now work)) × (j < z .edges) ⌝ }
+    requires { ⌜ HasNext (z .vertices) (now bytes) cursor ⌝ }
     ensures { λ r. ⌜ r ≡ cursorPast cursor (nextEdge (z .vertices) (now (bytes .entry)) cursor) ⌝ }
     ensures { λ r. ⌜ now (work .exit) ≡ edgeStored z (cursor .tail) j (now (work .entry)) (nextEdge (z .vertices) (now (bytes .entry)) cursor) ⌝ }
 {
     let vertices = z.vertices;
-    let EdgeRead::Next(edge, next) = cursor::next_edge(cursor, bytes, vertices) else {
+    let EdgeRead::Next(edge, next) = cursor::next_checked(cursor, bytes, vertices) else {
         return cursor;
     };
     let before = cursor.tail;

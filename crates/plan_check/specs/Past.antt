@@ -1,9 +1,20 @@
--- The cursor past what was read: for the contracts of callers that go through a plan that was checked, nothing that a reader must believe.
+-- The cursor past what was read, and that an edge is next: for the contracts of code that goes through a plan that was checked, nothing that a reader must believe.
+use Prim.Native.Nat.{ℕ}
+use mathlib.Core.List.{List}
+use mathlib.Core.Path.{_≡_}
+use Rattle.graph.specs.declared.Edge.{Edge}
 use Rattle.graph.specs.declared.Cursor.{Cursor}
 use Rattle.graph.specs.declared.EdgeRead.{EdgeRead}
 use Rattle.graph.specs.declared.EdgeRead.the-variants.{Next, Refused}
+use Rattle.graph.specs.Plan.{nextEdge}
 
 -- the cursor past an edge that was read
 unfoldable pub cursorPast : Cursor → EdgeRead → Cursor
 cursorPast old (Next e c) = c
 cursorPast old (Refused n p) = old
+
+-- an edge is next after the cursor, as in a plan that was checked
+pub record HasNext (v : ℕ) (s : List ℕ) (c : Cursor) : Type 0 where
+  pub edge : Edge
+  pub after : Cursor
+  pub is : nextEdge v s c ≡ Next edge after

@@ -23,7 +23,7 @@ use Rattle.graph.proofs.Tests.{and-true}
 use Rattle.graph.proofs.Over.{sets-front}
 use Rattle.plan_check.specs.Past.{cursorPast}
 use Rattle.plan_check.proofs.Checked.{sized-by, checked-sizes, Stored, stored-none, stored-next, first, cursor-next, rest-is, none-left}
-use Rattle.plan_reader.specs.Stored.{HasNext, fieldStoredAt}
+use Rattle.plan_reader.specs.Stored.{fieldStoredAt}
 
 -- one list after i edges: the rest stored from here gives what all of them stored from the front give
 pub record Column (v m : ℕ) (s : List ℕ) (at i : ℕ) (c : Cursor) (field : Edge → ℕ) (old new : List ℕ) : Type 0 where
@@ -41,14 +41,6 @@ module _ (v m : ℕ) (s : List ℕ) (at : ℕ) where
 
   -- the next edge is there
   module _ (i : ℕ) (c : Cursor) (more : i < m) (h : Stored v m s i c) where
-    pub stepped : HasNext v s c
-    stepped =
-        record {
-          edge = first v m s at i c more h .edge;
-          after = first v m s at i c more h .after;
-          is = first v m s at i c more h .is;
-        }
-
     pub column-next :
         (field : Edge → ℕ) (old new : List ℕ) → Column v m s at i c field old new →
         Column v m s at (suc i) (first v m s at i c more h .after) field old (fieldStoredAt field i new (nextEdge v s c))

@@ -1,6 +1,4 @@
 // A plan read into four lent lists: V and M, or the refusal, and then the lists are untouched.
-mod checked;
-
 ghost use Prim.Native.Nat.{_<_, _≤_};
 ghost use mathlib.Core.Path.{_≡_};
 ghost use mathlib.Core.Bool.{_&&_};
@@ -10,8 +8,8 @@ ghost use lib.Dec.{leb};
 ghost use Rattle.graph.specs.declared.PlanRead.the-variants.{Sizes};
 ghost use Rattle.graph.specs.Plan.{firstAt, nextEdge, edgesFrom, sizes};
 ghost use Rattle.graph.specs.Lists.{tailOf, headOf, costOf, classOf, over, edgesIn, readAnswer, listAfter};
-ghost use Rattle.plan_check.specs.Past.{cursorPast};
-ghost use Rattle.plan_reader.specs.Stored.{HasNext, fieldStoredAt};
+ghost use Rattle.plan_check.specs.Past.{HasNext, cursorPast};
+ghost use Rattle.plan_reader.specs.Stored.{fieldStoredAt};
 use graph::Cursor;
 use graph::EdgeRead;
 use graph::Header;
@@ -57,7 +55,7 @@ fn store(
     ensures { λ r. ⌜ now (costs .exit) ≡ fieldStoredAt costOf i (now (costs .entry)) (nextEdge vertices (now (bytes .entry)) cursor) ⌝ }
     ensures { λ r. ⌜ now (classes .exit) ≡ fieldStoredAt classOf i (now (classes .entry)) (nextEdge vertices (now (bytes .entry)) cursor) ⌝ }
 {
-    let EdgeRead::Next(edge, next) = checked::next_edge(cursor, bytes, vertices) else {
+    let EdgeRead::Next(edge, next) = cursor::next_checked(cursor, bytes, vertices) else {
         return cursor;
     };
     tails[i] = edge.tail;

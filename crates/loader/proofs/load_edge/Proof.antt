@@ -7,8 +7,8 @@ use borrow.Author.Needs.{needs}
 use Rattle.loader.proofs.load_edge.Statement.{statement}
 use Rattle.loader.proofs.load_edge.Tie as tie
 
-next-edge-requires : tie.Need-next-edge-requires
-next-edge-requires c κs = search needs
+next-checked-requires : tie.Need-next-checked-requires
+next-checked-requires c κs = c .before .before .pre .1
 
 enum-known-edge : tie.Need-enum-known-edge
 enum-known-edge c = search needs
@@ -19,7 +19,7 @@ enum-told c = search needs
 returns : tie.Need-returns
 returns c =
     let s = c .before .before .before .before .before in
-    loaded-none (s .args .z) (s .args .j) (s .args .work .now) (s .args .cursor) _ _ _ (sym (c .before .before .next-edge .ensures) ∙ c .enum-told .given .1)
+    loaded-none (s .args .z) (s .args .j) (s .args .work .now) (s .args .cursor) _ _ _ (sym (c .before .before .next-checked .ensures) ∙ c .enum-told .given .1)
 
 cast-fill-first : tie.Need-cast-fill-first
 cast-fill-first c = search needs
@@ -37,7 +37,7 @@ fill-first-requires : tie.Need-fill-first-requires
 unfolding base
 fill-first-requires c κs =
     let s = c .before .before .before .before .before .before .before in
-    let q = sym (c .before .before .before .before .next-edge .ensures) ∙ c .before .before .edge .given .1 in
+    let q = sym (c .before .before .before .before .next-checked .ensures) ∙ c .before .before .edge .given .1 in
     omega (arith, next-tail _ _ (s .args .cursor) _ _ q .vertex, s .pre .0)
 
 put-edge-requires : tie.Need-put-edge-requires
@@ -50,14 +50,14 @@ returns-2 : tie.Need-returns-2
 returns-2 c =
     let k = c .before .before .before .before .before .before .before .before .before in
     let s = k .before .before .before .before .before in
-    loaded-one (s .args .z) (s .args .j) (s .args .work .now) (s .args .cursor) _ _ _ _ _ (sym (k .before .before .next-edge .ensures) ∙ k .edge .given .1)
+    loaded-one (s .args .z) (s .args .j) (s .args .work .now) (s .args .cursor) _ _ _ _ _ (sym (k .before .before .next-checked .ensures) ∙ k .edge .given .1)
     (c .before .before .before .before .before .before .fill-first .ensures) (c .before .before .put-edge .ensures)
 
 pub load-edge-spec : {M : Type 1} → statement M
 load-edge-spec =
     tie.close
     (tie.spec
-    next-edge-requires
+    next-checked-requires
     enum-known-edge
     enum-told
     returns

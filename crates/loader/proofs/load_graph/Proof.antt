@@ -3,6 +3,7 @@ use Prim.Native.Nat.{_-_}
 use mathlib.Core.Path.{refl, _∙_}
 use native.Mathlib.Omega.{arith}
 use lib.ListN.{length-set}
+use Rattle.plan_check.proofs.Checked.{has-next}
 use Rattle.workspace.specs.Layout.{base}
 use Rattle.loader.proofs.Loading.{Loading, loading-none, loading-next, loading-all}
 use borrow.Author.Needs.{needs}
@@ -30,7 +31,8 @@ loop-holds c =
 load-edge-requires : tie.Need-load-edge-requires Inv-loop μ-loop
 load-edge-requires c κs =
     let s = c .before .before .before .before .before .before in
-    (omega (arith, simp length-set at (c .before .before .loop .inv .size), s .pre .1), c .before .loop-test .taken)
+    let l = c .before .before .loop in
+    ((omega (arith, simp length-set at (l .inv .size), s .pre .1), c .before .loop-test .taken), has-next _ _ _ (s .args .at) _ _ (c .before .loop-test .taken) (l .inv .stored))
 
 add-j : tie.Need-add-j Inv-loop μ-loop
 add-j c = search needs

@@ -2,7 +2,8 @@
 use Prim.Native.Nat.{_-_}
 use native.Mathlib.Omega.{arith}
 use borrow.Author.Needs.{needs}
-use Rattle.plan_reader.proofs.Filling.{Filled, stepped, filled-none, filled-next, filled-all}
+use Rattle.plan_check.proofs.Checked.{has-next}
+use Rattle.plan_reader.proofs.Filling.{Filled, filled-none, filled-next, filled-all}
 use Rattle.plan_reader.proofs.fill.Statement.{statement}
 use Rattle.plan_reader.proofs.fill.Tie as tie
 
@@ -30,7 +31,7 @@ store-requires c κs =
         omega (arith, l, f .heads .size, a .pre .1 .1),
         (
           omega (arith, l, f .costs .size, a .pre .1 .1 .1),
-          (omega (arith, l, f .classes .size, a .pre .1 .1 .1), stepped _ _ _ (a .args .at) _ _ l (f .stored)),
+          (omega (arith, l, f .classes .size, a .pre .1 .1 .1), has-next _ _ _ (a .args .at) _ _ l (f .stored)),
         ),
       ),
     )

@@ -7,8 +7,8 @@ use borrow.Author.Needs.{needs}
 use Rattle.plan_reader.proofs.store.Statement.{statement}
 use Rattle.plan_reader.proofs.store.Tie as tie
 
-next-edge-requires : tie.Need-next-edge-requires
-next-edge-requires c κs = c .before .before .before .before .before .pre .1 .1 .1 .1
+next-checked-requires : tie.Need-next-checked-requires
+next-checked-requires c κs = c .before .before .before .before .before .pre .1 .1 .1 .1
 
 enum-known-edge : tie.Need-enum-known-edge
 enum-known-edge c = search needs
@@ -18,7 +18,7 @@ enum-told c = search needs
 
 returns : tie.Need-returns
 returns c =
-    let q = sym (c .before .before .next-edge .ensures) ∙ c .enum-told .given .1 in
+    let q = sym (c .before .before .next-checked .ensures) ∙ c .enum-told .given .1 in
     let a = c .before .before .before .before .before .before .before .before .args in
     (cursor-kept (a .cursor) tailOf (a .i) [] _ _ _ q, (list-kept (a .cursor) tailOf (a .i) _ _ _ _ q, (list-kept (a .cursor) headOf (a .i) _ _ _ _ q, (list-kept (a .cursor) costOf (a .i) _ _ _ _ q, list-kept (a .cursor) classOf (a .i) _ _ _ _ q))))
 
@@ -60,7 +60,7 @@ same-length-4 c = search needs
 
 returns-2 : tie.Need-returns-2
 returns-2 c =
-    let q = sym (c .before .before .before .next-edge .ensures) ∙ c .before .edge .given .1 in
+    let q = sym (c .before .before .before .next-checked .ensures) ∙ c .before .edge .given .1 in
     let a = c .before .before .before .before .before .before .before .before .before .args in
     (cursor-moved (a .cursor) tailOf (a .i) [] _ _ _ q, (list-stored (a .cursor) tailOf (a .i) _ _ _ _ q, (list-stored (a .cursor) headOf (a .i) _ _ _ _ q, (list-stored (a .cursor) costOf (a .i) _ _ _ _ q, list-stored (a .cursor) classOf (a .i) _ _ _ _ q))))
 
@@ -68,7 +68,7 @@ pub store-spec : {M : Type 1} → statement M
 store-spec =
     tie.close
     (tie.spec
-    next-edge-requires
+    next-checked-requires
     enum-known-edge
     enum-told
     returns

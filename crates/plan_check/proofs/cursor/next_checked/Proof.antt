@@ -1,11 +1,11 @@
--- `next_edge` meets its contract: four numbers that pass their rows.
+-- `next_checked` meets its contract: four numbers that pass their rows.
 use mathlib.Core.Path.{sym, _∙_, refl}
 use native.Mathlib.Omega.{arith}
-use Rattle.plan_reader.proofs.Passing.{tail-there, tail-taken, head-there, head-taken, cost-there, cost-taken, class-there, class-taken}
+use Rattle.plan_check.proofs.Passing.{tail-there, tail-taken, head-there, head-taken, cost-there, cost-taken, class-there, class-taken}
 use Rattle.plan_check.proofs.NextEdge.{taken-tail, taken-head, edge-taken}
 use borrow.Author.Needs.{needs}
-use Rattle.plan_reader.proofs.checked.next_edge.Statement.{statement}
-use Rattle.plan_reader.proofs.checked.next_edge.Tie as tie
+use Rattle.plan_check.proofs.cursor.next_checked.Statement.{statement}
+use Rattle.plan_check.proofs.cursor.next_checked.Tie as tie
 
 read-plan-number-requires : tie.Need-read-plan-number-requires
 read-plan-number-requires c κs = search needs
@@ -93,8 +93,8 @@ returns-5 c =
     edge-taken _ _ _ _ _ _ _ _ _ _ _ _ (tail-taken _ _ _ h _ _ a) refl (head-taken _ _ _ h _ _ a _ _ b) (cost-taken _ _ _ h _ _ a _ _ b _ _ d)
     (class-taken _ _ _ h _ _ a _ _ b _ _ d _ _ (sym (c .before .before .before .read-plan-number4 .ensures) ∙ c .before .class .given .1))
 
-pub next-edge-spec : {M : Type 1} → statement M
-next-edge-spec =
+pub next-checked-spec : {M : Type 1} → statement M
+next-checked-spec =
     tie.close
     (tie.spec
     read-plan-number-requires

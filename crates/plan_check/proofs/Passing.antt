@@ -11,7 +11,7 @@ use Rattle.graph.specs.declared.Cursor.{Cursor}
 use Rattle.graph.specs.declared.Taken.the-variants.{Number}
 use Rattle.graph.specs.Rows.{Row, takeNumber, tailRows, headRows, costRows, classRows}
 use Rattle.graph.specs.Plan.{leastAfter}
-use Rattle.plan_reader.specs.Stored.{HasNext}
+use Rattle.plan_check.specs.Past.{HasNext}
 use Rattle.graph.proofs.Rows.{Passes, Passed, passed-take}
 use Rattle.graph.proofs.OneEdge.{Read, read-edge}
 
