@@ -1,107 +1,177 @@
--- Laws for the code that tests the anchor heuristic: one edge tried, and edge after edge.
+-- Laws for the code that goes through a plan once: edge after edge, with the first that breaks the anchor rule, and what it found.
 use Prim.Native.Nat.{ℕ, suc, _+_, _-_, _≤_, _<_}
 use native.Mathlib.Numerals.{add-one}
 use native.Mathlib.Omega.{arith}
 use mathlib.Core.Path.{_≡_, refl, sym, ap, _∙_}
-use mathlib.Core.Bool.{Bool, true, false, cond}
+use mathlib.Core.Logic.{_⊎_, inl, inr}
+use mathlib.Core.Bool.{Bool, true, false, cond, _&&_}
 use mathlib.Core.List.{List, [], _∷_}
 use lib.ListN.{length}
+use lib.Dec.{ltb}
+use borrow.Author.Tests.{lt-ltb, le-ltb}
 use Rattle.graph.specs.declared.Edge.{Edge}
 use Rattle.graph.specs.declared.Cursor.{Cursor}
-use Rattle.graph.specs.declared.EdgeRead.{EdgeRead}
 use Rattle.graph.specs.declared.EdgeRead.the-variants.{Next}
 use Rattle.graph.specs.declared.EdgeRead.the-variants as edgeRead
 use Rattle.graph.specs.declared.PlanRead.the-variants.{Sizes}
-use Rattle.graph.specs.Plan.{firstAt, nextEdge, edgesFrom, sizes}
-use Rattle.graph.specs.Lists.{fault, edgesIn}
-use Rattle.graph.specs.OneForm.{EdgeWithin}
-use Rattle.graph.proofs.OneEdge.{read-edge, edge-passes, passes-within}
-use Rattle.graph.proofs.Plan.{First}
-use Rattle.plan_check.proofs.Checked as laws
-use Rattle.plan_check.proofs.Checked.{sized-by, Stored, stored-none, stored-next}
-use Rattle.search.specs.Call.{edgesRow}
-use Rattle.admission.specs.declared.consistency.Tried.{Tried}
-use Rattle.admission.specs.declared.consistency.Tried.the-variants.{Holds, Breaks}
-use Rattle.admission.specs.declared.Verdict.the-variants.{Admitted, Refused}
-use Rattle.admission.specs.Verdict.{verdict}
-use Rattle.admission.specs.Tried.{breaks, tried}
-
--- an edge that was read joins vertices
-pub read-within : (v : ℕ) (s : List ℕ) (c : Cursor) (e : Edge) (c′ : Cursor) → nextEdge v s c ≡ Next e c′ → EdgeWithin v e
-read-within v s c e c′ h = passes-within v (c .tail) (c .least) e (edge-passes (read-edge v s c e c′ h .0))
-
--- ---- one edge tried
-
-module _ (h : List ℕ) (r : EdgeRead) where
-  pub tried-fault : (n p : ℕ) → r ≡ edgeRead.Refused n p → Breaks ≡ tried h r
-  unfolding tried
-  tried-fault n p q = rw q
-
-  module _ (e : Edge) (c : Cursor) (q : r ≡ Next e c) (b : Bool) (k : b ≡ breaks h e) where
-    pub tried-breaks : b ≡ true → Breaks ≡ tried h r
-    unfolding tried
-    tried-breaks t = rw (q, sym k, t)
-
-    pub tried-holds : b ≡ false → Holds c ≡ tried h r
-    unfolding tried
-    tried-holds t = rw (q, sym k, t)
-
-cond-holds : (b : Bool) (c c′ : Cursor) → cond b Breaks (Holds c) ≡ Holds c′ → (b ≡ false) × (c ≡ c′)
-cond-holds true c c′ h = absurd (let z : _≡_ {A = ℕ} 0 1 = cc in omega arith)
-cond-holds false c c′ h = (refl, cc)
-
-cond-breaks : (b : Bool) (c : Cursor) → cond b Breaks (Holds c) ≡ Breaks → b ≡ true
-cond-breaks true c h = refl
-cond-breaks false c h = absurd (let z : _≡_ {A = ℕ} 0 1 = cc in omega arith)
+use Rattle.graph.specs.Plan.{Decoded, accepted, refused, firstAt, nextEdge, before, onward, edgesFrom, sizes}
+use Rattle.graph.specs.Lists.{edgesIn}
+use Rattle.graph.proofs.Tests.{and-false}
+use Rattle.plan_check.proofs.Checked.{sized-by, checked-sizes}
+use Rattle.search.specs.Call.{row, edgesRow}
+use Rattle.admission.specs.declared.consistency.EdgesRead.{EdgesRead}
+use Rattle.admission.specs.declared.consistency.EdgesRead.the-variants.{Whole, Refused}
+use Rattle.admission.specs.Broken.{breaks, firstBroken, edgesRead}
 
 -- ---- edge after edge
 
-empty : (es : List Edge) → length es ≡ 0 → es ≡ []
-empty [] h = refl
-empty (e ∷ es) h = absurd (omega arith)
+-- what is found, told after i edges: b of them breaks the rule first, or none did
+unfoldable pub from : List ℕ → ℕ → ℕ → Decoded → EdgesRead
+from h b i (accepted v es) = Whole (cond (ltb b i) b (firstBroken h i es))
+from h b i (refused n p) = Refused n p
 
--- the rule holds on i of m edges, and the cursor stands before the rest: the row from here is the whole row
-pub record Kept (v m : ℕ) (s : List ℕ) (at : ℕ) (h : List ℕ) (i : ℕ) (c : Cursor) : Type 0 where
-  pub stored : Stored v m s i c
-  pub rest : edgesRow h 0 (edgesIn (edgesFrom v m s (firstAt at))) ≡ edgesRow h i (edgesIn (edgesFrom v (m - i) s c))
+from-none : (h : List ℕ) (b : ℕ) (d : Decoded) → edgesRead h d ≡ from h b 0 d
+unfolding edgesRead from
+from-none h b (accepted v es) = rw (le-ltb b 0 (omega arith))
+from-none h b (refused n p) = refl
+
+-- the first after one more edge
+unfoldable pub stepped : List ℕ → ℕ → ℕ → Edge → ℕ
+stepped h b i e = cond (breaks h e && ltb i b) i b
+
+module _ (h : List ℕ) (m i : ℕ) (more : i < m) (e : Edge) where
+  -- an edge before it breaks the rule
+  module _ (b : ℕ) (l : b < i) where
+    stays : stepped h b i e ≡ b
+    unfolding stepped
+    stays = rw (and-false (breaks h e) (ltb i b) (λ t. le-ltb i b (omega (arith, l))))
+
+    from-broken : (d : Decoded) → from h b i (before e d) ≡ from h (stepped h b i e) (suc i) d
+    unfolding from before
+    from-broken (accepted v es) = rw (stays, lt-ltb b i l, lt-ltb b (suc i) (omega (arith, l)))
+    from-broken (refused n p) = refl
+
+  -- none did
+  from-kept-by :
+      (t : Bool) → breaks h e ≡ t → (es : List Edge) →
+      firstBroken h i (e ∷ es) ≡ cond (ltb (cond (t && ltb i m) i m) (suc i)) (cond (t && ltb i m) i m) (firstBroken h (suc i) es)
+  unfolding firstBroken
+  from-kept-by true q es = rw (q, lt-ltb i m more, lt-ltb i (suc i) (omega arith))
+  from-kept-by false q es = rw (q, le-ltb m (suc i) (omega (arith, more)))
+
+  from-kept : (d : Decoded) → from h m i (before e d) ≡ from h (stepped h m i e) (suc i) d
+  unfolding from before stepped
+  from-kept (accepted v es) = rw (le-ltb m i (omega (arith, more))) (ap Whole (from-kept-by (breaks h e) refl es))
+  from-kept (refused n p) = refl
+
+-- i of m edges were read, and the cursor stands before the rest; b is the first of them that breaks the rule, or m
+pub record Passed (v m : ℕ) (s : List ℕ) (at : ℕ) (h : List ℕ) (i : ℕ) (c : Cursor) (b : ℕ) : Type 0 where
+  pub within : i ≤ m
+  pub known : (b < i) ⊎ (b ≡ m)
+  pub told : edgesRead h (edgesFrom v m s (firstAt at)) ≡ from h b i (edgesFrom v (m - i) s c)
 
 module _ (v m : ℕ) (s : List ℕ) (at : ℕ) (h : List ℕ) where
-  pub kept-first : (c : Cursor) → c ≡ firstAt at → sizes (edgesFrom v m s (firstAt at)) ≡ Sizes v m → Kept v m s at h 0 c
-  kept-first c q g =
+  pub passed-none : (c : Cursor) → c ≡ firstAt at → Passed v m s at h 0 c m
+  passed-none c q =
       let z : m ≡ m - 0 = omega arith in
       rw q
-      record { stored = stored-none v m s at g; rest = ap (λ (x : ℕ). edgesRow h 0 (edgesIn (edgesFrom v x s (firstAt at)))) z }
+      record {
+        within = omega arith;
+        known = inr refl;
+        told = ap (λ (x : ℕ). edgesRead h (edgesFrom v x s (firstAt at))) z ∙ from-none h m (edgesFrom v (m - 0) s (firstAt at));
+      }
 
-  module _ (i : ℕ) (c : Cursor) (more : i < m) (k : Kept v m s at h i c) (t : Tried) (e : t ≡ tried h (nextEdge v s c)) where
-    abbrev f : First v (m - suc i) s c v (edgesIn (edgesFrom v (m - i) s c))
-    f = laws.first v m s at i c more (k .stored)
+  module _ (i : ℕ) (c : Cursor) (b : ℕ) (more : i < m) (k : Passed v m s at h i c b) where
+    told-one : edgesRead h (edgesFrom v m s (firstAt at)) ≡ from h b i (onward (edgesFrom v (m - suc i) s) (nextEdge v s c))
+    unfolding edgesFrom
+    told-one = let z : m - i ≡ suc (m - suc i) = omega (arith, more) in k .told ∙ ap (λ (x : ℕ). from h b i (edgesFrom v x s c)) z
 
-    is-cond : t ≡ cond (breaks h (f .edge)) Breaks (Holds (f .after))
-    unfolding tried
-    is-cond = e ∙ ap (tried h) (f .is)
+    from-next : (e : Edge) (d : Decoded) → (b < i) ⊎ (b ≡ m) → from h b i (before e d) ≡ from h (stepped h b i e) (suc i) d
+    from-next e d (inl l) = from-broken h m i more e b l d
+    from-next e d (inr q) = rw q (from-kept h m i more e d)
 
-    row-cond :
-        edgesRow h 0 (edgesIn (edgesFrom v m s (firstAt at)))
-        ≡ cond (breaks h (f .edge)) (fault 13 i) (edgesRow h (suc i) (f .others))
-    unfolding edgesRow breaks
-    row-cond = k .rest ∙ ap (edgesRow h i) (f .all)
+    known-by : (t : Bool) → (b < i) ⊎ (b ≡ m) → (cond t i b < suc i) ⊎ (cond t i b ≡ m)
+    known-by true o = inl (omega arith)
+    known-by false (inl l) = inl (omega arith)
+    known-by false (inr q) = inr q
 
-    pub kept-next : (c′ : Cursor) → t ≡ Holds c′ → Kept v m s at h (i + 1) c′
-    unfolding edgesIn
-    kept-next c′ q =
-        let p : (breaks h (f .edge) ≡ false) × (f .after ≡ c′) = cond-holds (breaks h (f .edge)) (f .after) c′ (sym is-cond ∙ q) in
-        let r : edgesRow h 0 (edgesIn (edgesFrom v m s (firstAt at))) ≡ edgesRow h (suc i) (f .others) = row-cond ∙ rw (p .0) in
-        rw (add-one i, sym (p .1))
-        record { stored = stored-next v m s at i c more (k .stored); rest = r ∙ ap (edgesRow h (suc i)) (sym (ap edgesIn (f .rest))) }
+    pub passed-next :
+        (e : Edge) (c′ : Cursor) (b′ : ℕ) → nextEdge v s c ≡ Next e c′ → b′ ≡ cond (breaks h e && ltb i b) i b → Passed v m s at h (i + 1) c′ b′
+    unfolding onward stepped
+    passed-next e c′ b′ q r =
+        rw (add-one i, r)
+        record {
+          within = omega (arith, more);
+          known = known-by (breaks h e && ltb i b) (k .known);
+          told = told-one ∙ ap (λ (x : _). from h b i (onward (edgesFrom v (m - suc i) s) x)) q ∙ from-next e (edgesFrom v (m - suc i) s c′) (k .known);
+        }
 
-    pub kept-breaks : t ≡ Breaks → Refused 13 i ≡ verdict v m at (edgesRow h 0 (edgesIn (edgesFrom v m s (firstAt at))))
-    unfolding verdict
-    kept-breaks q = rw (row-cond, cond-breaks (breaks h (f .edge)) (f .after) (sym is-cond ∙ q))
+    pub passed-refused : (n p : ℕ) → nextEdge v s c ≡ edgeRead.Refused n p → Refused n p ≡ edgesRead h (edgesFrom v m s (firstAt at))
+    unfolding onward from
+    passed-refused n p q = sym (told-one ∙ rw q)
 
-  pub kept-all :
-      (i : ℕ) (c : Cursor) → m ≤ i → Kept v m s at h i c →
-      Admitted v m at ≡ verdict v m at (edgesRow h 0 (edgesIn (edgesFrom v m s (firstAt at))))
-  unfolding verdict edgesRow
-  kept-all i c all k =
-      let l : length (edgesIn (edgesFrom v (m - i) s c)) ≡ m - i = sized-by (edgesFrom v (m - i) s c) v (m - i) (k .stored .good) .1 in
-      rw (k .rest, empty (edgesIn (edgesFrom v (m - i) s c)) (omega arith))
+  -- all were read
+  module _ (i : ℕ) (c : Cursor) (b : ℕ) (all : m ≤ i) (k : Passed v m s at h i c b) where
+    told-none : edgesRead h (edgesFrom v m s (firstAt at)) ≡ from h b i (edgesFrom v 0 s c)
+    told-none = let z : m - i ≡ 0 = omega arith in k .told ∙ ap (λ (x : ℕ). from h b i (edgesFrom v x s c)) z
+
+    pub passed-over : c .at < length s → Refused 7 (c .at) ≡ edgesRead h (edgesFrom v m s (firstAt at))
+    unfolding edgesFrom from
+    passed-over l = sym (told-none ∙ simp (lt-ltb (c .at) (length s) l))
+
+    is-first : (b < i) ⊎ (b ≡ m) → cond (ltb b i) b i ≡ b
+    is-first (inl l) = rw (lt-ltb b i l)
+    is-first (inr q) = let z : i ≡ b = omega (arith, k .within) in rw (le-ltb b i (omega arith)) z
+
+    pub passed-all : length s ≤ c .at → Whole b ≡ edgesRead h (edgesFrom v m s (firstAt at))
+    unfolding edgesFrom from firstBroken
+    passed-all l = sym (told-none ∙ simp (le-ltb (c .at) (length s) l) (ap Whole (is-first (k .known))))
+
+-- ---- what was found
+
+-- the row of the rule, from edge number i on, by the first edge that breaks it
+abbrev ByFirst : List ℕ → ℕ → List Edge → Type 0
+ByFirst h i es = edgesRow h i es ≡ row (ltb (firstBroken h i es) (i + length es)) 13 (firstBroken h i es)
+
+row-by : (h : List ℕ) (i : ℕ) (e : Edge) (es : List Edge) → ByFirst h (suc i) es → (t : Bool) → breaks h e ≡ t → ByFirst h i (e ∷ es)
+unfolding edgesRow firstBroken row breaks
+row-by h i e es k true q = rw (q, lt-ltb i (i + suc (length es)) (omega arith))
+row-by h i e es k false q = let z : i + suc (length es) ≡ suc i + length es = omega arith in rw (q, z) k
+
+row-broken : (h : List ℕ) (i : ℕ) (es : List Edge) → ByFirst h i es
+unfolding edgesRow firstBroken row breaks
+row-broken h i [] = rw (le-ltb i (i + 0) (omega arith))
+row-broken h i (e ∷ es) = row-by h i e es (row-broken h (suc i) es) (breaks h e) refl
+
+-- a plan that was read has V vertices and M edges, and its row 13 is told by the first edge that breaks the rule
+pub record WholeRead (v m : ℕ) (h : List ℕ) (b : ℕ) (d : Decoded) : Type 0 where
+  pub accepts : d ≡ accepted v (edgesIn d)
+  pub count : length (edgesIn d) ≡ m
+  pub row-is : edgesRow h 0 (edgesIn d) ≡ row (ltb b m) 13 b
+
+record Found (h : List ℕ) (b : ℕ) (d : Decoded) : Type 0 where
+  size : ℕ
+  count : ℕ
+  sized : sizes d ≡ Sizes size count
+  first : firstBroken h 0 (edgesIn d) ≡ b
+
+found : (h : List ℕ) (b : ℕ) (d : Decoded) → edgesRead h d ≡ Whole b → Found h b d
+unfolding edgesRead sizes edgesIn
+found h b (accepted w es) q = record { size = w; count = length es; sized = refl; first = cc }
+found h b (refused n p) q = absurd (let z : _≡_ {A = ℕ} 0 1 = cc in omega arith)
+
+pub whole-read :
+    (v m : ℕ) (s : List ℕ) (c : Cursor) (h : List ℕ) (b : ℕ) → edgesRead h (edgesFrom v m s c) ≡ Whole b → WholeRead v m h b (edgesFrom v m s c)
+whole-read v m s c h b q =
+    let f : Found h b (edgesFrom v m s c) = found h b (edgesFrom v m s c) q in
+    let d = sized-by (edgesFrom v m s c) v m (checked-sizes v m s c (f .size) (f .count) (f .sized)) in
+    let n : 0 + length (edgesIn (edgesFrom v m s c)) ≡ m = omega (arith, d .1) in
+    record { accepts = d .0; count = d .1; row-is = row-broken h 0 (edgesIn (edgesFrom v m s c)) ∙ rw (n, f .first) }
+
+pub refused-by : (h : List ℕ) (d : Decoded) (n p : ℕ) → edgesRead h d ≡ Refused n p → d ≡ refused n p
+unfolding edgesRead
+refused-by h (accepted v es) n p q = absurd (let z : _≡_ {A = ℕ} 0 1 = cc in omega arith)
+refused-by h (refused k p′) n p q =
+    let a : k ≡ n = cc in
+    let b : p′ ≡ p = cc in
+    rw (a, b)

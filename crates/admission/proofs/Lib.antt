@@ -1,4 +1,3 @@
 pub mod Verdicts
 pub mod Admits
 pub mod AnchorRule
-pub mod Goal

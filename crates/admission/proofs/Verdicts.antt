@@ -1,6 +1,5 @@
 -- Laws for the code that decides a call: its rows downwards.
 use Prim.Native.Nat.{ℕ, _+_, _*_, _<_}
-use native.Mathlib.Omega.{arith}
 use mathlib.Core.Path.{_≡_, sym, ap, _∙_}
 use mathlib.Core.Bool.{Bool, true, false, not, _&&_, _||_}
 use mathlib.Core.List.{List, [], _∷_}
@@ -9,19 +8,21 @@ use lib.Dec.{ltb, eqb}
 use borrow.Author.Tests.{ltb-true, eqb-true}
 use Rattle.graph.specs.declared.Edge.{Edge}
 use Rattle.graph.specs.declared.Header.the-variants.{Counts}
-use Rattle.graph.specs.declared.PlanRead.the-variants.{Sizes}
-use Rattle.graph.specs.declared.PlanRead.the-variants as plan
-use Rattle.graph.specs.Plan.{Decoded, accepted, refused, header, afterHeader, decode, firstAt, edgesFrom, sizes}
+use Rattle.graph.specs.declared.Header.the-variants as headerRead
+use Rattle.graph.specs.Plan.{accepted, refused, header, afterHeader, decode, firstAt, edgesFrom}
 use Rattle.graph.specs.Lists.{Fault, edgesIn}
 use Rattle.graph.proofs.Tests.{or-left, or-right, and-true, not-false}
-use Rattle.plan_check.proofs.Checked.{sized-by}
 use Rattle.search.specs.Call.{unfitSchedule, row, first, endsRow, tablesRow, scheduleRow, memoryRow, goalRow, edgesRow, faultIn, faultOf, planEdges, jobIn, jobFrom, jobOf}
 use Rattle.admission.specs.declared.Query.{Query}
 use Rattle.admission.specs.declared.Lengths.{Lengths}
 use Rattle.admission.specs.declared.Verdict.{Verdict}
 use Rattle.admission.specs.declared.Verdict.the-variants.{Refused}
+use Rattle.admission.specs.declared.consistency.EdgesRead.the-variants.{Whole}
+use Rattle.admission.specs.declared.consistency.EdgesRead.the-variants as edgesRefused
+use Rattle.admission.specs.Broken.{edgesRead}
 use Rattle.admission.specs.Verdict.{verdict}
 use Rattle.admission.specs.Admission.{firstEdgeAt, verdictOf, Decided}
+use Rattle.admission.proofs.AnchorRule.{WholeRead, whole-read, refused-by}
 
 -- ---- the rows of a call whose plan was checked
 
@@ -41,19 +42,19 @@ tables-hold count a v g b e f =
 
 module _
     (s : List ℕ) (q : Query) (anchor sheets schedule : List ℕ) (lengths : Lengths) (v m at : ℕ)
-    (h : header s ≡ Counts v m at) (g : sizes (edgesFrom v m s (firstAt at)) ≡ Sizes v m) where
+    (h : header s ≡ Counts v m at) (b : ℕ) (g : edgesRead anchor (edgesFrom v m s (firstAt at)) ≡ Whole b) where
   abbrev edges : List Edge
   edges = edgesIn (edgesFrom v m s (firstAt at))
 
   abbrev Is : Verdict → Type 0
   Is r = Decided s q anchor sheets schedule lengths r
 
+  abbrev read : WholeRead v m anchor b (edgesFrom v m s (firstAt at))
+  read = whole-read v m s (firstAt at) anchor b g
+
   accepts : decode s ≡ accepted v edges
   unfolding decode afterHeader
-  accepts = rw h (sized-by (edgesFrom v m s (firstAt at)) v m g .0)
-
-  size : length edges ≡ m
-  size = sized-by (edgesFrom v m s (firstAt at)) v m g .1
+  accepts = rw h (read .accepts)
 
   -- the rows, over the code's tests
   abbrev ends : Bool
@@ -66,7 +67,7 @@ module _
   memory = ltb (lengths .route) v || ltb (lengths .work) (3 * v + 1 + 3 * m) || ltb (lengths .wide) (2 * v)
 
   abbrev last : List Fault
-  last = row (not (eqb (getD anchor (q .goal) 0) 0)) 12 0 ∷ edgesRow anchor 0 edges ∷ []
+  last = row (not (eqb (getD anchor (q .goal) 0) 0)) 12 0 ∷ row (ltb b m) 13 b ∷ []
 
   by-rows :
       (r : Verdict) →
@@ -91,7 +92,8 @@ module _
               k .route-is,
               k .work-is,
               k .wide-is,
-              size,
+              read .count,
+              read .row-is,
             ));
       }
 
@@ -121,19 +123,18 @@ module _
 
 -- ---- a plan that is refused
 
-sizes≢refused : {v m n p : ℕ} → Sizes v m ≡ plan.Refused n p → ⊥
-sizes≢refused h = let z : _≡_ {A = ℕ} 0 1 = cc in omega arith
+module _ (s : List ℕ) (q : Query) (anchor sheets schedule : List ℕ) (lengths : Lengths) (n p : ℕ) where
+  abbrev Refuses : Type 0
+  Refuses = Decided s q anchor sheets schedule lengths (Refused n p)
 
-refused-by : (d : Decoded) (n p : ℕ) → sizes d ≡ plan.Refused n p → d ≡ refused n p
-unfolding sizes
-refused-by (accepted v es) n p h = absurd (sizes≢refused h)
-refused-by (refused k q) n p h =
-    let a : k ≡ n = cc in
-    let b : q ≡ p = cc in
-    rw (a, b)
-
-module _ (s : List ℕ) (q : Query) (anchor sheets schedule : List ℕ) (lengths : Lengths) where
-  pub plan-refused : (n p : ℕ) → sizes (decode s) ≡ plan.Refused n p → Decided s q anchor sheets schedule lengths (Refused n p)
+  plan-refused : decode s ≡ refused n p → Refuses
   unfolding verdictOf verdict faultOf faultIn
-  plan-refused n p e =
-      let d : decode s ≡ refused n p = refused-by (decode s) n p e in record { decided = λ c k. sym (rw (ap decode (k .bytes-is) ∙ d)) }
+  plan-refused d = record { decided = λ c k. sym (rw (ap decode (k .bytes-is) ∙ d)) }
+
+  pub header-refused : header s ≡ headerRead.Refused n p → Refuses
+  unfolding decode afterHeader
+  header-refused e = plan-refused (rw e)
+
+  pub edges-refused : (v m at : ℕ) → header s ≡ Counts v m at → edgesRead anchor (edgesFrom v m s (firstAt at)) ≡ edgesRefused.Refused n p → Refuses
+  unfolding decode afterHeader
+  edges-refused v m at e f = plan-refused (rw e (refused-by anchor (edgesFrom v m s (firstAt at)) n p f))

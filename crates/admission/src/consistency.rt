@@ -1,92 +1,72 @@
-// Rows 12 and 13: the anchor heuristic is 0 at the goal, and h0(tail) ≤ cost + h0(head) on every edge.
-ghost use Prim.Native.Nat.{_<_};
+// One pass over a plan's edges: the first refusal, and on the way the anchor rule, h0(tail) ≤ cost + h0(head) on
+// every edge.
 ghost use mathlib.Core.Path.{_≡_};
-ghost use mathlib.Core.Bool.{not};
-ghost use mathlib.Core.List.{[], _∷_};
-ghost use lib.ListN.{length, getD};
-ghost use lib.Dec.{eqb};
-ghost use Rattle.graph.specs.declared.PlanRead.the-variants.{Sizes};
-ghost use Rattle.graph.specs.Plan.{firstAt, nextEdge, edgesFrom, sizes};
-ghost use Rattle.graph.specs.Lists.{edgesIn};
-ghost use Rattle.search.specs.Call.{row, first, edgesRow};
-ghost use Rattle.admission.specs.Verdict.{verdict};
-ghost use Rattle.admission.specs.Tried as rule;
-use crate::Verdict;
-use graph::Cursor;
+ghost use mathlib.Core.Bool.{cond, _&&_};
+ghost use lib.ListN.{getD};
+ghost use lib.Dec.{ltb};
+ghost use Rattle.graph.specs.Plan.{firstAt, edgesFrom};
+ghost use Rattle.admission.specs.Broken as rule;
 use graph::Edge;
 use graph::EdgeRead;
 use plan_check::cursor;
 
-// An edge that was tried: the anchor rule holds on it, with the cursor past it; or it breaks the rule (also
-// where no edge is read, which a checked plan rules out).
-enum Tried {
-    Holds(Cursor),
-    Breaks,
+// What is found: all edges were read, and the number of the first that breaks the rule, M where none does; or the
+// first refusal.
+pub enum EdgesRead {
+    Whole(usize),
+    Refused(u32, usize),
+}
+
+// The anchor heuristic at a vertex, 0 past the table's end.
+fn anchor_at(anchor: &[u32], vertex: u32) -> u32
+    ensures { λ r. ⌜ r ≡ getD (now (anchor .entry)) vertex 0 ⌝ }
+{
+    let i = vertex as usize;
+    if i < anchor.len() { anchor[i] } else { 0 }
 }
 
 // Whether an edge breaks the rule; the sum may pass 32 bits.
 fn breaks(edge: Edge, anchor: &[u32]) -> bool
-    requires { ⌜ edge .tail < length (now anchor) ⌝ }
-    requires { ⌜ edge .head < length (now anchor) ⌝ }
     ensures { λ r. ⌜ r ≡ rule.breaks (now (anchor .entry)) edge ⌝ }
 {
-    let tail = edge.tail as usize;
-    let head = edge.head as usize;
-    let through = edge.cost as u64 + anchor[head] as u64;
-    through < anchor[tail] as u64
+    let through = edge.cost as u64 + anchor_at(anchor, edge.head) as u64;
+    through < anchor_at(anchor, edge.tail) as u64
 }
 
-// The next edge, tried under the anchor rule.
-fn try_edge(bytes: &[u8], vertices: u32, anchor: &[u32], cursor: Cursor) -> Tried
-    requires { ⌜ length (now anchor) ≡ vertices ⌝ }
-    ensures { λ r. ⌜ r ≡ rule.tried (now (anchor .entry)) (nextEdge vertices (now (bytes .entry)) cursor) ⌝ }
+// The first edge that breaks the rule, after edge i was tried.
+fn first_broken(broken: usize, i: usize, edge: Edge, anchor: &[u32]) -> usize
+    ensures { λ r. ⌜ r ≡ cond (rule.breaks (now (anchor .entry)) edge && ltb i broken) i broken ⌝ }
 {
-    let EdgeRead::Next(edge, next) = cursor::next_edge(cursor, bytes, vertices) else {
-        return Tried::Breaks;
-    };
-    if breaks(edge, anchor) {
-        Tried::Breaks
-    } else {
-        Tried::Holds(next)
+    if !breaks(edge, anchor) {
+        return broken;
     }
+    if i < broken { i } else { broken }
 }
 
-// Row 13, over the edges of a plan that was checked: the position is the edge's number.
-fn edges_verdict(bytes: &[u8], vertices: u32, edges: u32, at: usize, anchor: &[u32]) -> Verdict
-    requires { ⌜ sizes (edgesFrom vertices edges (now bytes) (firstAt at)) ≡ Sizes vertices edges ⌝ }
-    requires { ⌜ length (now anchor) ≡ vertices ⌝ }
-    ensures { λ r. ⌜ r ≡ verdict vertices edges at (edgesRow (now (anchor .entry)) 0 (edgesIn (edgesFrom vertices edges (now (bytes .entry)) (firstAt at)))) ⌝ }
+// All edges after a header, and the plan's end, under an anchor table of any length.
+pub fn read_edges(bytes: &[u8], vertices: u32, edges: u32, at: usize, anchor: &[u32]) -> EdgesRead
+    ensures { λ r. ⌜ r ≡ rule.edgesRead (now (anchor .entry)) (edgesFrom vertices edges (now (bytes .entry)) (firstAt at)) ⌝ }
 {
     let count = edges as usize;
     let mut cursor = cursor::first(at);
+    let mut broken = count;
     let mut i = 0;
     while i < count {
-        let Tried::Holds(next) = try_edge(bytes, vertices, anchor, cursor) else {
-            return Verdict::Refused(13, i);
-        };
-        cursor = next;
+        match cursor::next_edge(cursor, bytes, vertices) {
+            EdgeRead::Next(edge, next) => {
+                broken = first_broken(broken, i, edge, anchor);
+                cursor = next;
+            }
+            EdgeRead::Refused(n, p) => {
+                return EdgesRead::Refused(n, p);
+            }
+        }
         i += 1;
     }
-    Verdict::Admitted(vertices, edges, at)
-}
-
-// Row 12, then row 13.
-pub fn anchor_verdict(
-    bytes: &[u8],
-    vertices: u32,
-    edges: u32,
-    at: usize,
-    goal: u32,
-    anchor: &[u32],
-) -> Verdict
-    requires { ⌜ sizes (edgesFrom vertices edges (now bytes) (firstAt at)) ≡ Sizes vertices edges ⌝ }
-    requires { ⌜ length (now anchor) ≡ vertices ⌝ }
-    requires { ⌜ goal < vertices ⌝ }
-    ensures { λ r. ⌜ r ≡ verdict vertices edges at (first (row (not (eqb (getD (now (anchor .entry)) goal 0) 0)) 12 0 ∷ edgesRow (now (anchor .entry)) 0 (edgesIn (edgesFrom vertices edges (now (bytes .entry)) (firstAt at))) ∷ [])) ⌝ }
-{
-    let i = goal as usize;
-    if anchor[i] != 0 {
-        return Verdict::Refused(12, 0);
+    let end = cursor.at;
+    if end < bytes.len() {
+        EdgesRead::Refused(7, end)
+    } else {
+        EdgesRead::Whole(broken)
     }
-    edges_verdict(bytes, vertices, edges, at, anchor)
 }

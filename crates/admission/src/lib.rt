@@ -3,8 +3,8 @@ mod consistency;
 mod rows;
 
 ghost use Rattle.admission.specs.Admission.{Decided};
+use consistency::EdgesRead;
 use graph::Header;
-use graph::PlanRead;
 
 // What a call asks besides slices: the ends, the barred classes, the number of inadmissible heuristics (guides),
 // and the budget (allowance) of turns.
@@ -45,9 +45,9 @@ pub fn decide(
     match plan_check::header(bytes) {
         Header::Refused(n, p) => Verdict::Refused(n, p),
         Header::Counts(vertices, edges, at) => {
-            match plan_check::check_edges(bytes, vertices, edges, at) {
-                PlanRead::Refused(n, p) => Verdict::Refused(n, p),
-                PlanRead::Sizes(_, _) => rows::call_verdict(
+            match consistency::read_edges(bytes, vertices, edges, at, anchor) {
+                EdgesRead::Refused(n, p) => Verdict::Refused(n, p),
+                EdgesRead::Whole(broken) => rows::call_verdict(
                     bytes,
                     vertices,
                     edges,
@@ -57,6 +57,7 @@ pub fn decide(
                     guides,
                     schedule,
                     lengths,
+                    broken,
                 ),
             }
         }

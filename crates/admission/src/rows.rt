@@ -1,16 +1,20 @@
-// Rows 8, 9 and 11 of a call, and the rows 8 to 13 downwards.
-ghost use Prim.Native.Nat.{_+_, _*_};
+// Rows 8, 9, 11 and 12 of a call, and the rows 8 to 13 downwards.
+ghost use Prim.Native.Nat.{_+_, _*_, _<_};
 ghost use mathlib.Core.Path.{_≡_};
 ghost use mathlib.Core.Bool.{not, _&&_, _||_};
+ghost use mathlib.Core.List.{[], _∷_};
+ghost use lib.ListN.{length, getD};
 ghost use lib.Dec.{ltb, eqb};
 ghost use Rattle.graph.specs.declared.Header.the-variants.{Counts};
-ghost use Rattle.graph.specs.declared.PlanRead.the-variants.{Sizes};
-ghost use Rattle.graph.specs.Plan.{header, firstAt, edgesFrom, sizes};
+ghost use Rattle.graph.specs.Plan.{header, firstAt, edgesFrom};
+ghost use Rattle.search.specs.Call.{row, first};
+ghost use Rattle.admission.specs.declared.consistency.EdgesRead.the-variants.{Whole};
+ghost use Rattle.admission.specs.Broken.{edgesRead};
+ghost use Rattle.admission.specs.Verdict.{verdict};
 ghost use Rattle.admission.specs.Admission.{Decided};
 use crate::Lengths;
 use crate::Query;
 use crate::Verdict;
-use crate::consistency;
 
 // How many inadmissible heuristics (guide sheets) a call may have.
 const MAX_GUIDES: u32 = 8;
@@ -59,7 +63,31 @@ fn memory_fails(vertices: u32, edges: u32, lengths: Lengths) -> bool
     lengths.wide < 2 * v
 }
 
-// The rows of a call whose plan was checked.
+// Row 12, the anchor heuristic is not 0 at the goal; then row 13, whose position is the first edge that breaks the
+// anchor rule.
+fn anchor_verdict(
+    vertices: u32,
+    edges: u32,
+    at: usize,
+    goal: u32,
+    anchor: &[u32],
+    broken: usize,
+) -> Verdict
+    requires { ⌜ length (now anchor) ≡ vertices ⌝ }
+    requires { ⌜ goal < vertices ⌝ }
+    ensures { λ r. ⌜ r ≡ verdict vertices edges at (first (row (not (eqb (getD (now (anchor .entry)) goal 0) 0)) 12 0 ∷ row (ltb broken edges) 13 broken ∷ [])) ⌝ }
+{
+    let i = goal as usize;
+    if anchor[i] != 0 {
+        return Verdict::Refused(12, 0);
+    }
+    if broken < edges as usize {
+        return Verdict::Refused(13, broken);
+    }
+    Verdict::Admitted(vertices, edges, at)
+}
+
+// The rows of a call whose plan was read, with the number of the first edge that breaks the anchor rule, or M.
 pub fn call_verdict(
     bytes: &[u8],
     vertices: u32,
@@ -70,9 +98,10 @@ pub fn call_verdict(
     guides: &[u32],
     schedule: &[u32],
     lengths: Lengths,
+    broken: usize,
 ) -> Verdict
     requires { ⌜ header (now bytes) ≡ Counts vertices edges at ⌝ }
-    requires { ⌜ sizes (edgesFrom vertices edges (now bytes) (firstAt at)) ≡ Sizes vertices edges ⌝ }
+    requires { ⌜ edgesRead (now anchor) (edgesFrom vertices edges (now bytes) (firstAt at)) ≡ Whole broken ⌝ }
     ensures { λ r. ⌜ Decided (now (bytes .entry)) q (now (anchor .entry)) (now (guides .entry)) (now (schedule .entry)) lengths r ⌝ }
 {
     let start = q.start;
@@ -89,5 +118,5 @@ pub fn call_verdict(
     if memory_fails(vertices, edges, lengths) {
         return Verdict::Refused(11, 0);
     }
-    consistency::anchor_verdict(bytes, vertices, edges, at, goal, anchor)
+    anchor_verdict(vertices, edges, at, goal, anchor, broken)
 }

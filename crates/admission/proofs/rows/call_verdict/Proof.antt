@@ -12,7 +12,7 @@ returns : tie.Need-returns
 returns c =
     let e = c .before in
     let p = e .before .before .before .before .before .pre in
-    call-8 _ _ _ _ _ _ _ _ _ (p .0) (p .1) _ (e .ends-fail .ensures) (c .if1 .taken)
+    call-8 _ _ _ _ _ _ _ _ _ (p .0) _ (p .1) _ (e .ends-fail .ensures) (c .if1 .taken)
 
 tables-fail-requires : tie.Need-tables-fail-requires
 tables-fail-requires c κs = search needs
@@ -22,7 +22,7 @@ returns-2 c =
     let t = c .before in
     let e = t .before .before in
     let p = e .before .before .before .before .before .pre in
-    call-9 _ _ _ _ _ _ _ _ _ (p .0) (p .1) _ (e .ends-fail .ensures) (t .before .if1 .left) _ (t .tables-fail .ensures) (c .if2 .taken)
+    call-9 _ _ _ _ _ _ _ _ _ (p .0) _ (p .1) _ (e .ends-fail .ensures) (t .before .if1 .left) _ (t .tables-fail .ensures) (c .if2 .taken)
 
 schedule-fails-requires : tie.Need-schedule-fails-requires
 schedule-fails-requires c κs = search needs
@@ -33,7 +33,7 @@ returns-3 c =
     let t = s .before .before in
     let e = t .before .before in
     let p = e .before .before .before .before .before .pre in
-    call-10 _ _ _ _ _ _ _ _ _ (p .0) (p .1) _ (e .ends-fail .ensures) (t .before .if1 .left) _ (t .tables-fail .ensures) (s .before .if2 .left) _
+    call-10 _ _ _ _ _ _ _ _ _ (p .0) _ (p .1) _ (e .ends-fail .ensures) (t .before .if1 .left) _ (t .tables-fail .ensures) (s .before .if2 .left) _
     (s .schedule-fails .ensures) (c .if3 .taken)
 
 memory-fails-requires : tie.Need-memory-fails-requires
@@ -46,7 +46,7 @@ returns-4 c =
     let t = s .before .before in
     let e = t .before .before in
     let p = e .before .before .before .before .before .pre in
-    call-11 _ _ _ _ _ _ _ _ _ (p .0) (p .1) _ (e .ends-fail .ensures) (t .before .if1 .left) _ (t .tables-fail .ensures) (s .before .if2 .left) _
+    call-11 _ _ _ _ _ _ _ _ _ (p .0) _ (p .1) _ (e .ends-fail .ensures) (t .before .if1 .left) _ (t .tables-fail .ensures) (s .before .if2 .left) _
     (s .schedule-fails .ensures) (m .before .if3 .left) _ (m .memory-fails .ensures) (c .if4 .taken)
 
 anchor-verdict-requires : tie.Need-anchor-verdict-requires
@@ -56,11 +56,8 @@ anchor-verdict-requires c κs =
     let e = t .before .before in
     let b = e .before .before .before .before .before in
     let a = b .args in (
-      b .pre .1,
-      (
-        tables-hold (a .q .guides) (length (a .anchor .now)) (a .vertices) (length (a .guides .now)) _ (t .tables-fail .ensures) (s .before .if2 .left),
-        ends-hold (a .q .start) (a .q .goal) (a .q .barred) (a .vertices) _ (e .ends-fail .ensures) (t .before .if1 .left),
-      ),
+      tables-hold (a .q .guides) (length (a .anchor .now)) (a .vertices) (length (a .guides .now)) _ (t .tables-fail .ensures) (s .before .if2 .left),
+      ends-hold (a .q .start) (a .q .goal) (a .q .barred) (a .vertices) _ (e .ends-fail .ensures) (t .before .if1 .left),
     )
 
 returns-5 : tie.Need-returns-5
@@ -70,7 +67,7 @@ returns-5 c =
     let t = s .before .before in
     let e = t .before .before in
     let p = e .before .before .before .before .before .pre in
-    call-last _ _ _ _ _ _ _ _ _ (p .0) (p .1) _ (e .ends-fail .ensures) (t .before .if1 .left) _ (t .tables-fail .ensures) (s .before .if2 .left) _
+    call-last _ _ _ _ _ _ _ _ _ (p .0) _ (p .1) _ (e .ends-fail .ensures) (t .before .if1 .left) _ (t .tables-fail .ensures) (s .before .if2 .left) _
     (s .schedule-fails .ensures) (m .before .if3 .left) _ (m .memory-fails .ensures) (c .before .if4 .left) _ (c .anchor-verdict .ensures)
 
 pub call-verdict-spec : {M : Type 1} → statement M
