@@ -1,5 +1,5 @@
 // Whether a planner call is admitted: its refusals, decided before anything is written.
-mod consistency;
+pub mod consistency;
 mod rows;
 
 ghost use Rattle.admission.specs.Admission.{Decided};

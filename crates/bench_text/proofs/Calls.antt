@@ -16,11 +16,13 @@ use Rattle.job.specs.Reading.{jobRead, planOf, tableCount}
 use Rattle.job.specs.Numbers.{values}
 use Rattle.job.specs.Asked.{factorsOf, tablesOf, anchorOf, sheetsOf, callWith, callAsked}
 use Rattle.job.specs.Printed.{printed, callText}
-use Rattle.job.proofs.Accepted.{accepted-ready}
+use Rattle.job.proofs.Accepted.{Parts}
 use Rattle.job.specs.Texts.{Texts}
 use Rattle.schedule.specs.declared.default_schedule.DefaultSchedule.{DefaultSchedule}
 use Rattle.schedule.specs.DefaultSchedule.{pairsIn, initial}
 use Rattle.schedule.proofs.DefaultSchedule.{loads, standard-fits}
+use Rattle.job_reader.specs.UpToEdges.{readUpToEdges}
+use Rattle.job_reader.proofs.UpToEdges.{Asks, told}
 use Rattle.bench_text.specs.Stored.{Stored}
 
 -- ---- numbers stored at an array's front
@@ -52,20 +54,24 @@ standard-prefix d e =
       size = sym (length-take-le (d .count) (d .numbers) fits);
     }
 
--- ---- an accepted job
+-- ---- a job that was read up to its plan's edges
 
-module _ (s : List ℕ) (f : Front) (v : ℕ) (h : jobRead s ≡ Accepted f v) where
+module _ (s : List ℕ) (f : Front) (v : ℕ) (h : readUpToEdges s ≡ Accepted f v) where
+  abbrev asks : Asks s f v (jobRead s)
+  asks = told s .accepted f v h
+
+  pub parts : Parts s f v (asks .edges)
+  parts = asks .parts
+
   pub factors-few : 2 * f .«round_count» ≤ 32
-  factors-few = omega (arith, accepted-ready s f v h .fits .rounds)
+  factors-few = omega (arith, parts .fits .rounds)
 
   pub numbers-few : (1 + f .«guide_count») * v ≤ 2304
-  numbers-few =
-      let r = accepted-ready s f v h in
-      omega (arith, mul-le-mul-left (1 + f .«guide_count») (r .vertices), r .fits .guides)
+  numbers-few = omega (arith, mul-le-mul-left (1 + f .«guide_count») (parts .vertices), parts .fits .guides)
 
   pub numbers-all : length (tablesOf s f v) ≡ (1 + f .«guide_count») * v
   unfolding tableCount
-  numbers-all = accepted-ready s f v h .tables
+  numbers-all = parts .tables
 
   -- its factors and its tables, stored at the fronts of the arrays for them
   pub factors-stored :
@@ -73,7 +79,7 @@ module _ (s : List ℕ) (f : Front) (v : ℕ) (h : jobRead s ≡ Accepted f v) w
       Prefix (2 * f .«round_count») new (factorsOf s f)
   unfolding factorsOf
   factors-stored new stored =
-      stored-prefix (replicate 32 0) new _ _ (accepted-ready s f v h .fits .schedule) factors-few stored
+      stored-prefix (replicate 32 0) new _ _ (parts .fits .schedule) factors-few stored
 
   pub tables-stored :
       (new : List ℕ) → new ≡ sets (replicate 2304 0) 0 (values ((1 + f .«guide_count») * v) s (f .«tables_at»)) →

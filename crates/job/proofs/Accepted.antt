@@ -100,14 +100,18 @@ front-fits s f h =
 
 -- ---- the job
 
--- it fits the limits, and every table is there
-pub record Ready (s : List ℕ) (f : Front) (v : ℕ) : Type 0 where
+-- with V vertices and M edges it fits the limits, and every table is there
+pub record Parts (s : List ℕ) (f : Front) (v m : ℕ) : Type 0 where
   pub fits : Fits s f
+  pub vertices : v ≤ maxJobVertices
+  pub few : m ≤ maxJobEdges
+  pub tables : length (tablesOf s f v) ≡ tableCount f v
+
+-- so does its plan have them
+pub record Ready (s : List ℕ) (f : Front) (v : ℕ) : Type 0 where
   pub edges : ℕ
   pub sizes : sizes (decode (planOf s f)) ≡ checked.Sizes v edges
-  pub vertices : v ≤ maxJobVertices
-  pub few : edges ≤ maxJobEdges
-  pub tables : length (tablesOf s f v) ≡ tableCount f v
+  pub parts : Parts s f v edges
 
 module _ (s : List ℕ) (f : Front) (v : ℕ) where
   never : {A : Type 0} (n p : ℕ) → Refused n p ≡ Accepted f v → A
@@ -127,25 +131,32 @@ module _ (s : List ℕ) (f : Front) (v : ℕ) where
     module _ (whole : front s ≡ Whole g) where
       -- V and M are small
       sizes-by :
-          (w m : ℕ) (b : Bool) → sizes (decode (planOf s g)) ≡ checked.Sizes w m → (ltb maxJobVertices w || ltb maxJobEdges m) ≡ b →
-          cond b (Refused 14 0) (afterTables s g w (endOf (tableCount g w) s (g .«tables_at»))) ≡ Accepted f v → Ready s f v
+          (w m : ℕ) (b : Bool) → (ltb maxJobVertices w || ltb maxJobEdges m) ≡ b →
+          cond b (Refused 14 0) (afterTables s g w (endOf (tableCount g w) s (g .«tables_at»))) ≡ Accepted f v → (g ≡ f) × (w ≡ v) × Parts s f v m
       unfolding tablesOf
-      sizes-by w m true z o h = never 14 0 h
-      sizes-by w m false z o h =
-          let e = tables-by w (endOf (tableCount g w) s (g .«tables_at»)) h in
-          rw (sym (e .0), sym (e .1))
-          (record {
-            fits = front-fits s g whole;
-            edges = m;
-            sizes = z;
-            vertices = ltb-false maxJobVertices w (or-left (ltb maxJobVertices w) (ltb maxJobEdges m) o);
-            few = ltb-false maxJobEdges m (or-right (ltb maxJobVertices w) (ltb maxJobEdges m) o);
-            tables = length-values s (e .2 .0) (tableCount g w) (g .«tables_at») (e .2 .1);
-          })
+      sizes-by w m true o h = never 14 0 h
+      sizes-by w m false o h =
+          let e = tables-by w (endOf (tableCount g w) s (g .«tables_at»)) h in (
+            e .0,
+            e .1,
+            rw (sym (e .0), sym (e .1))
+                (record {
+                  fits = front-fits s g whole;
+                  vertices = ltb-false maxJobVertices w (or-left (ltb maxJobVertices w) (ltb maxJobEdges m) o);
+                  few = ltb-false maxJobEdges m (or-right (ltb maxJobVertices w) (ltb maxJobEdges m) o);
+                  tables = length-values s (e .2 .0) (tableCount g w) (g .«tables_at») (e .2 .1);
+                }),
+          )
+
+      pub parts-of : (w m : ℕ) → afterSizes s g w m ≡ Accepted f v → (g ≡ f) × (w ≡ v) × Parts s f v m
+      unfolding afterSizes
+      parts-of w m h = sizes-by w m (ltb maxJobVertices w || ltb maxJobEdges m) refl h
 
       plan-by : (p : PlanRead) → sizes (decode (planOf s g)) ≡ p → afterPlan s g p ≡ Accepted f v → Ready s f v
-      unfolding afterPlan afterSizes
-      plan-by (checked.Sizes w m) z h = sizes-by w m (ltb maxJobVertices w || ltb maxJobEdges m) z refl h
+      unfolding afterPlan
+      plan-by (checked.Sizes w m) z h =
+          let e = parts-of w m h in
+          record { edges = m; sizes = rw (sym (e .0), sym (e .1)) z; parts = e .2 }
       plan-by (checked.Refused n p) z h = never n p h
 
   front-by : (r : FrontRead) → front s ≡ r → afterFront s r ≡ Accepted f v → Ready s f v

@@ -13,11 +13,13 @@ use Rattle.graph.specs.declared.PlanRead.the-variants as checked
 use Rattle.graph.specs.Plan.{Decoded, accepted, refused, decode, sizes}
 use Rattle.graph.specs.Lists.{Fault, none, fault}
 use Rattle.search.specs.Call.{row, first, endsRow, tablesRow, scheduleRow, memoryRow, goalRow, edgesRow, faultIn, faultOf}
+use Rattle.search.specs.Outcome.{figures, answerIn, answer}
 use Rattle.job.specs.declared.Front.{Front}
-use Rattle.job.specs.declared.JobRead.the-variants.{Refused}
+use Rattle.job.specs.declared.JobRead.the-variants.{Accepted, Refused}
 use Rattle.job.specs.Front.{front}
 use Rattle.job.specs.Reading.{maxJobBytes, maxJobEdges, planOf, tableCount, afterPlan, afterFront, jobRead}
 use Rattle.job.specs.Asked.{tablesOf, anchorOf, sheetsOf, routeSize, workSize, wideSize, zeros, callWith, callAsked}
+use Rattle.job.specs.Printed.{ending, printed, callText, textOf}
 use Rattle.job.specs.Refusals.{Own, ends, schedule, goal, edge, OwnRefusals, PlanRefusals}
 use Rattle.job.proofs.Accepted.{Ready, accepted-ready}
 
@@ -61,13 +63,13 @@ module _ (n p : ℕ) where
 module _ (s : List ℕ) (f : Front) (v : ℕ) (r : Ready s f v) where
   sheets-all : length (tablesOf s f v) ≡ v + f .«guide_count» * v
   unfolding tableCount
-  sheets-all = omega (arith, r .tables)
+  sheets-all = omega (arith, r .parts .tables)
 
   tables-clear : tablesRow (callAsked s f v) v ≡ none
   unfolding tablesRow callAsked callWith anchorOf sheetsOf row
   tables-clear =
       simp (
-        le-ltb 8 (f .«guide_count») (r .fits .guides),
+        le-ltb 8 (f .«guide_count») (r .parts .fits .guides),
         eq-eqb (length (take v (tablesOf s f v))) v (length-take-le v (tablesOf s f v) (omega (arith, sheets-all))),
         eq-eqb (length (drop v (tablesOf s f v))) (f .«guide_count» * v) (omega (arith, sheets-all, length-drop v (tablesOf s f v))),
       )
@@ -76,9 +78,9 @@ module _ (s : List ℕ) (f : Front) (v : ℕ) (r : Ready s f v) where
   unfolding memoryRow callAsked callWith zeros row
   memory-clear m h =
       simp (
-        le-ltb routeSize v (r .vertices),
-        le-ltb workSize (3 * v + 1 + 3 * m) (omega (arith, r .vertices)),
-        le-ltb wideSize (2 * v) (omega (arith, r .vertices)),
+        le-ltb routeSize v (r .parts .vertices),
+        le-ltb workSize (3 * v + 1 + 3 * m) (omega (arith, r .parts .vertices)),
+        le-ltb wideSize (2 * v) (omega (arith, r .parts .vertices)),
       )
 
   own-by : (n p : ℕ) (d : Decoded) → sizes d ≡ checked.Sizes v (r .edges) → faultIn (callAsked s f v) d ≡ fault n p → Own n
@@ -90,7 +92,7 @@ module _ (s : List ℕ) (f : Front) (v : ℕ) (r : Ready s f v) where
       row-then n p _ 8 _ ends
       (none-then n p _ _ (rw same tables-clear)
       (row-then n p _ 10 _ schedule
-      (none-then n p _ _ (rw (same, count) (memory-clear (r .edges) (r .few)))
+      (none-then n p _ _ (rw (same, count) (memory-clear (r .edges) (r .parts .few)))
       (row-then n p _ 12 _ goal (last-own n p _ es)))))
       h
 
@@ -112,3 +114,8 @@ plan-refusals =
           ap (λ (b : Bool). cond b (Refused 14 0) (afterFront s (front s))) (le-ltb maxJobBytes (length s) l) ∙ ap (afterFront s) h
           ∙ ap (afterPlan s f) q;
     }
+
+-- the call on such a plan is refused in the words of the job
+pub plan-text : (s : List ℕ) (f : Front) (v n p : ℕ) → decode (planOf s f) ≡ refused n p → textOf s (Refused n p) ≡ textOf s (Accepted f v)
+unfolding textOf callText printed ending figures answer answerIn faultOf faultIn callAsked callWith
+plan-text s f v n p d = rw d

@@ -49,7 +49,7 @@ module _ (s : List ℕ) (f : Front) (v : ℕ) (h : jobRead s ≡ Accepted f v) w
         let y : Admitted c = guaranteed c .exact .0 e in
         let p : sizes (accepted (y .size) (y .edges)) ≡ checked.Sizes v (r .edges) = ap sizes (sym (y .plan)) ∙ r .sizes in
         let same : y .size ≡ v = cc in
-        rw (y .plan) (omega (arith, r .vertices))
+        rw (y .plan) (omega (arith, r .parts .vertices))
 
     turns-held : length history ≤ length (c .memory .log)
     turns-held =

@@ -5,8 +5,12 @@ mod numbers;
 pub mod storing;
 
 ghost use mathlib.Core.Path.{_≡_};
-ghost use Rattle.job.specs.Reading.{jobRead, afterPlan, afterSizes};
-use graph::PlanRead;
+ghost use Rattle.graph.specs.Plan.{firstAt, edgesFrom, header};
+ghost use Rattle.job.specs.Reading.{afterSizes};
+ghost use Rattle.job_reader.specs.UpToEdges.{edgesFirst, afterHeader, readUpToEdges};
+use admission::consistency;
+use admission::consistency::EdgesRead;
+use graph::Header;
 use job::Front;
 use job::FrontRead;
 use job::JobRead;
@@ -41,19 +45,37 @@ fn after_sizes(job: &[u8], front: Front, vertices: u32, edges: u32) -> JobRead
     }
 }
 
-// The job after its plan was checked.
-fn after_plan(job: &[u8], front: Front, checked: PlanRead) -> JobRead
-    ensures { λ r. ⌜ r ≡ afterPlan (now (job .entry)) front checked ⌝ }
+// A job that fails after its plan: the plan's edges come first. They are read under any anchor table.
+fn edges_first(plan: &[u8], vertices: u32, edges: u32, at: usize, failed: JobRead) -> JobRead
+    ensures { λ r. ⌜ r ≡ edgesFirst (edgesFrom vertices edges (now (plan .entry)) (firstAt at)) failed ⌝ }
 {
-    match checked {
-        PlanRead::Sizes(vertices, edges) => after_sizes(job, front, vertices, edges),
-        PlanRead::Refused(n, p) => JobRead::Refused(n, p),
+    let anchor = [0u32; 1];
+    match consistency::read_edges(plan, vertices, edges, at, &anchor) {
+        EdgesRead::Whole(_) => failed,
+        EdgesRead::Refused(n, p) => JobRead::Refused(n, p),
     }
 }
 
-// The whole job: accepted, with V of its plan; or refused, with 14 or by its plan.
+// The job after its front: its plan up to the edges, and its tables.
+fn after_front(job: &[u8], plan: &[u8], front: Front) -> JobRead
+    ensures { λ r. ⌜ r ≡ afterHeader (now (job .entry)) front (now (plan .entry)) (header (now (plan .entry))) ⌝ }
+{
+    match plan_check::header(plan) {
+        Header::Refused(n, p) => JobRead::Refused(n, p),
+        Header::Counts(vertices, edges, at) => {
+            let sized = after_sizes(job, front, vertices, edges);
+            let JobRead::Refused(_, _) = sized else {
+                return sized;
+            };
+            edges_first(plan, vertices, edges, at, sized)
+        }
+    }
+}
+
+// The whole job, but that its plan's edges are left to the call where all else passes: accepted, with V of its plan;
+// or refused, with 14 or by its plan.
 pub fn read(job: &[u8]) -> JobRead
-    ensures { λ r. ⌜ r ≡ jobRead (now (job .entry)) ⌝ }
+    ensures { λ r. ⌜ r ≡ readUpToEdges (now (job .entry)) ⌝ }
 {
     if MAX_JOB_BYTES < job.len() {
         return JobRead::Refused(14, 0);
@@ -63,6 +85,5 @@ pub fn read(job: &[u8]) -> JobRead
     };
     let plan_at = front.plan_at;
     let plan_end = front.plan_end;
-    let checked = plan_check::check(&job[plan_at..plan_end]);
-    after_plan(job, front, checked)
+    after_front(job, &job[plan_at..plan_end], front)
 }

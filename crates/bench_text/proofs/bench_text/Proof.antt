@@ -5,6 +5,7 @@ use mathlib.Core.List.{List}
 use Rattle.job.specs.Printed.{textOf, benchText}
 use Rattle.job.specs.Texts.{Texts, Prints}
 use Rattle.job.proofs.Turns.{every-turn}
+use Rattle.job_reader.proofs.UpToEdges.{same-text}
 use borrow.Author.Needs.{needs}
 use Rattle.bench_text.proofs.bench_text.Statement.{statement}
 use Rattle.bench_text.proofs.bench_text.Tie as tie
@@ -31,15 +32,15 @@ same-length : tie.Need-same-length
 same-length c = search needs
 
 returns : tie.Need-returns
-unfolding benchText textOf
-returns c = printed (rw (sym (c .before .before .before .before .before .before .before .read .ensures) ∙ c .before .before .before .before .before .front .given .1) (c .before .before .plan-job .ensures))
+unfolding textOf
+returns c = printed (rw (same-text _, sym (c .before .before .before .before .before .before .before .read .ensures) ∙ c .before .before .before .before .before .front .given .1) (c .before .before .plan-job .ensures))
 
 same-length-2 : tie.Need-same-length-2
 same-length-2 c = search needs
 
 returns-2 : tie.Need-returns-2
-unfolding benchText textOf
-returns-2 c = printed (rw (sym (c .before .before .before .before .before .before .before .read .ensures) ∙ c .before .before .before .before .before .n .given .1) (c .before .before .put-refused .ensures))
+unfolding textOf
+returns-2 c = printed (rw (same-text _, sym (c .before .before .before .before .before .before .before .read .ensures) ∙ c .before .before .before .before .before .n .given .1) (c .before .before .put-refused .ensures))
 
 pub bench-text-spec : {M : Type 1} → statement M
 bench-text-spec =

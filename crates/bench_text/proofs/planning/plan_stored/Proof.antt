@@ -1,8 +1,7 @@
 -- `plan_stored` meets its contract: the tables are taken apart, and the call is the job's.
 use mathlib.Core.Path.{sym}
 use lib.Seq.{length-take-le}
-use Rattle.job.proofs.Accepted.{accepted-ready}
-use Rattle.bench_text.proofs.Calls.{first-table, call-is}
+use Rattle.bench_text.proofs.Calls.{parts, first-table, call-is}
 use borrow.Author.Needs.{needs}
 use Rattle.bench_text.proofs.planning.plan_stored.Statement.{statement}
 use Rattle.bench_text.proofs.planning.plan_stored.Tie as tie
@@ -24,13 +23,13 @@ part-sheets-end : tie.Need-part-sheets-end
 part-sheets-end c = search needs
 
 sub-plan : tie.Need-sub-plan
-sub-plan c = let a = c .before .before .before .before .before .before in accepted-ready (a .args .job .now) (a .args .front) (a .args .vertices) (a .pre .accepted) .fits .plan
+sub-plan c = let a = c .before .before .before .before .before .before in parts (a .args .job .now) (a .args .front) (a .args .vertices) (a .pre .accepted) .fits .plan
 
 part-plan-start : tie.Need-part-plan-start
-part-plan-start c = let a = c .before .before .before .before .before .before in accepted-ready (a .args .job .now) (a .args .front) (a .args .vertices) (a .pre .accepted) .fits .plan
+part-plan-start c = let a = c .before .before .before .before .before .before in parts (a .args .job .now) (a .args .front) (a .args .vertices) (a .pre .accepted) .fits .plan
 
 part-plan-end : tie.Need-part-plan-end
-part-plan-end c = let a = c .before .before .before .before .before .before in accepted-ready (a .args .job .now) (a .args .front) (a .args .vertices) (a .pre .accepted) .fits .end
+part-plan-end c = let a = c .before .before .before .before .before .before in parts (a .args .job .now) (a .args .front) (a .args .vertices) (a .pre .accepted) .fits .end
 
 plan-call-requires : tie.Need-plan-call-requires
 plan-call-requires c κs = search needs
