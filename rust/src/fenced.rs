@@ -65,11 +65,43 @@ impl Fenced {
         lent.copy_from_slice(bytes);
         lent
     }
+
+    /// These words, with nothing behind them.
+    pub fn words_at_the_end(&mut self, words: &[u32]) -> &[u32] {
+        let first = ROOM - size_of_val(words);
+        // SAFETY: any bytes are words.
+        let (before, lent, behind) = unsafe { self.middle()[first..].align_to_mut::<u32>() };
+        assert!(before.is_empty() && behind.is_empty(), "words in pages");
+        lent.copy_from_slice(words);
+        lent
+    }
 }
 
 impl Drop for Fenced {
     fn drop(&mut self) {
         // SAFETY: the memory was got so and is lent to nobody.
         unsafe { munmap(self.all.cast(), 3 * ROOM) };
+    }
+}
+
+#[cfg(test)]
+mod tests {
+    use super::*;
+
+    /// Bytes and words end where the memory does, also where there are none.
+    #[test]
+    fn the_end_is_that_of_the_memory() {
+        let mut fenced = Fenced::new();
+        let end = fenced.middle().as_ptr_range().end;
+        for length in [0, 1, 5, 4_096, ROOM / 4] {
+            let words: Vec<u32> = (7..).take(length).collect();
+            let lent = fenced.words_at_the_end(&words);
+            assert_eq!(lent, words);
+            assert_eq!(lent.as_ptr_range().end.cast(), end);
+            let bytes = vec![9; length];
+            let lent = fenced.at_the_end(&bytes);
+            assert_eq!(lent, bytes);
+            assert_eq!(lent.as_ptr_range().end, end);
+        }
     }
 }
