@@ -1,12 +1,22 @@
 //! Times whole planner calls of the library under test against the second
 //! planner, which finds its least keys by the same scans; with the argument
-//! `loads`, only those that end before the first turn. A program, not a test:
-//! its figures are for reading.
+//! `loads`, only those that end before the first turn, also beside the library's
+//! check of the same plan. A program, not a test: its figures are for reading.
+//!
+//! With `once PLACES` it makes one such call and one check and ends, so that the
+//! instructions of either can be counted; `once PLACES mixed` does it with costs
+//! of one to four groups:
+//!
+//!     valgrind --tool=callgrind --callgrind-out-file=/dev/null \
+//!         --toggle-collect=secondcoop_plan bench_planner once 4096
+//!     valgrind --tool=callgrind --callgrind-out-file=/dev/null \
+//!         --toggle-collect=secondcoop_check_plan bench_planner once 4096
 
 use std::hint::black_box;
 
 use secondcoop_tests::clock::thread_time;
 use secondcoop_tests::dijkstra;
+use secondcoop_tests::ffi;
 use secondcoop_tests::generate::{cost_of_groups, Plan};
 use secondcoop_tests::jobs::Job;
 use secondcoop_tests::planner::{Figures, Memory, MOST_OPINION, NO_OPINION};
@@ -26,12 +36,7 @@ const RAMP: u32 = 7;
 /// A floor of width × height vertices, which closes round at its edges; from
 /// each vertex edges of such costs lead to its eight neighbours. One edge in
 /// twenty is a ramp.
-fn floor(
-    random: &mut Random,
-    width: u32,
-    height: u32,
-    mut cost: impl FnMut(&mut Random) -> u32,
-) -> Plan {
+fn floor(random: &mut Random, width: u32, height: u32, costs: Costs) -> Plan {
     let mut plan = Plan::without_edges(width * height);
     for tail in 0..plan.vertices {
         let (x, y) = (tail % width, tail / width);
@@ -45,7 +50,7 @@ fn floor(
         for head in heads {
             plan.tails.push(tail);
             plan.heads.push(head);
-            plan.costs.push(cost(random));
+            plan.costs.push(costs.draw(random));
         }
     }
     // Costs and sheets are those of the floors before there were classes.
@@ -57,6 +62,34 @@ fn floor(
     plan.classes = (0..plan.edges()).map(class).collect();
     plan
 }
+
+/// How the costs of a floor are made.
+#[derive(Clone, Copy)]
+enum Costs {
+    /// From 100 to 1,000.
+    Ordinary,
+    /// Of these counts of groups in equal parts.
+    OfGroups(&'static [u64]),
+}
+
+/// The counts of groups that costs have, and costs of all of them.
+const GROUPS: &[u64] = &[1, 2, 3, 4];
+const MIXED: Costs = Costs::OfGroups(GROUPS);
+
+impl Costs {
+    fn draw(self, random: &mut Random) -> u32 {
+        match self {
+            Costs::Ordinary => random.range32(100, 1_000),
+            Costs::OfGroups(groups) => {
+                let count = random.pick(groups);
+                cost_of_groups(random, count)
+            }
+        }
+    }
+}
+
+/// The floors that loading is timed on, from the least.
+const FLOORS: [(u32, u32); 4] = [(8, 8), (16, 16), (32, 32), (64, 64)];
 
 /// How the guide sheets are made.
 #[derive(Clone, Copy)]
@@ -74,8 +107,7 @@ enum Sheets {
 /// of 60 hundredths of the true distances, and turns without end.
 fn job(seed: u64, width: u32, height: u32, sheets: Sheets) -> Job {
     let mut random = Random::new(seed);
-    let cost = |random: &mut Random| random.range32(100, 1_000);
-    let plan = floor(&mut random, width, height, cost);
+    let plan = floor(&mut random, width, height, Costs::Ordinary);
     let (start, goal) = (0, width / 2 + height / 2 * width);
     let distances: Vec<u32> = dijkstra::distances_to(&plan, goal, dijkstra::NO_BAR)
         .into_iter()
@@ -135,20 +167,19 @@ fn median(mut list: Vec<f64>) -> f64 {
     list[list.len() / 2]
 }
 
-/// Nanoseconds of a call, and the library's time over the second planner's:
-/// medians of alternating runs.
+/// Nanoseconds of a call on either side, and the first side's time over the
+/// second's: medians of alternating runs.
 struct Times {
-    library: f64,
-    second: f64,
+    each: [f64; 2],
     ratio: f64,
 }
 
-fn times(mut call: impl FnMut(&dyn Planner)) -> Times {
-    let sides: [&dyn Planner; 2] = [&Library, &SecondPlanner];
+/// Times what `call` does on side 0 and on side 1.
+fn times(mut call: impl FnMut(usize)) -> Times {
     let mut time = |side: usize, calls: u32| {
         let begin = thread_time();
         for _ in 0..calls {
-            call(sides[side]);
+            call(side);
         }
         (thread_time() - begin) as f64 / f64::from(calls)
     };
@@ -164,24 +195,22 @@ fn times(mut call: impl FnMut(&dyn Planner)) -> Times {
         runs.push(pair);
     }
     Times {
-        library: median(runs.iter().map(|[library, _]| *library).collect()),
-        second: median(runs.iter().map(|[_, second]| *second).collect()),
-        ratio: median(
-            runs.iter()
-                .map(|[library, second]| library / second)
-                .collect(),
-        ),
+        each: [0, 1].map(|side| median(runs.iter().map(|pair| pair[side]).collect())),
+        ratio: median(runs.iter().map(|[first, second]| first / second).collect()),
     }
 }
 
+/// The planners as sides.
+const SIDES: [&dyn Planner; 2] = [&Library, &SecondPlanner];
+
 /// Prints a line; gives the nanoseconds of a turn.
 fn print_line(name: &str, job: &Job, rounds: u64, turns: u64, times: &Times) -> [f64; 2] {
-    let turn = [times.library, times.second].map(|time| time / turns as f64);
+    let turn = times.each.map(|time| time / turns as f64);
     println!(
         "{name:<22} {:>6} {rounds:>6} {turns:>7} {:>10.3} {:>10.3} {:>8.0} {:>8.0} {:>7.3}",
         job.anchor.len(),
-        times.library / 1e6,
-        times.second / 1e6,
+        times.each[0] / 1e6,
+        times.each[1] / 1e6,
         turn[0],
         turn[1],
         times.ratio,
@@ -197,7 +226,7 @@ fn times_of_call(job: &Job) -> (Figures, Times) {
     assert_eq!(other.call(&Library, job), figures);
     assert!(other.route == lent.route && other.log == lent.log);
     assert!(other.work == lent.work && other.wide == lent.wide);
-    let times = times(|side| assert_eq!(black_box(lent.call(side, job)), figures));
+    let times = times(|side| assert_eq!(black_box(lent.call(SIDES[side], job)), figures));
     (figures, times)
 }
 
@@ -207,41 +236,94 @@ fn compare(name: &str, job: &Job) -> [f64; 2] {
     print_line(name, job, rounds, turns, &times)
 }
 
-/// Times a call that ends before its first turn: it checks and loads a plan
-/// with costs of these counts of groups in equal parts.
-fn compare_load(name: &str, (width, height): (u32, u32), groups: &[u64]) {
-    let cost = |random: &mut Random| {
-        let count = groups[random.below(groups.len() as u64) as usize];
-        cost_of_groups(random, count)
-    };
-    let plan = floor(&mut Random::new(7), width, height, cost);
+/// A job on a floor without guides that ends before its first turn: its call
+/// checks and loads the plan.
+fn load_of((width, height): (u32, u32), costs: Costs) -> (Plan, Job) {
+    let plan = floor(&mut Random::new(7), width, height, costs);
     let anchor = vec![0; plan.vertices as usize];
     let job = Job::new(&plan, 0, 1, anchor, vec![], 0, vec![], 0);
-    let ([_, _, _, _, _, _, turns, _], times) = times_of_call(&job);
-    assert_eq!(turns, 0);
-    let [library, second] = [times.library, times.second].map(|time| time / plan.edges() as f64);
+    (plan, job)
+}
+
+/// What such a call leaves in figures: unfinished without a turn.
+const LOADED: Figures = [2, 0, 0, 0, 0, 0, 0, 0];
+
+/// What a check of a plan leaves in figures.
+fn checked(plan: &Plan) -> ffi::Figures {
+    [0, 0, plan.vertices.into(), plan.edges() as u64]
+}
+
+/// Prints times by the edge.
+fn print_load(name: &str, plan: &Plan, times: &Times) {
+    let [first, second] = times.each.map(|time| time / plan.edges() as f64);
     println!(
-        "{name:<22} {:>6} {library:>10.2} {second:>10.2} {:>7.3}",
+        "{name:<22} {:>6} {first:>10.2} {second:>10.2} {:>7.3}",
         plan.vertices, times.ratio,
     );
 }
 
-/// Times loading: by the groups of costs, and on smaller floors.
+/// Times a call that ends before its first turn.
+fn compare_load(name: &str, size: (u32, u32), costs: Costs) {
+    let (plan, job) = load_of(size, costs);
+    let (figures, times) = times_of_call(&job);
+    assert_eq!(figures, LOADED);
+    print_load(name, &plan, &times);
+}
+
+/// Times the library's call beside its check of the same plan.
+fn compare_with_check(name: &str, size: (u32, u32), costs: Costs) {
+    let (plan, job) = load_of(size, costs);
+    let mut lent = Lent::of(&job);
+    let times = times(|side| match side {
+        0 => assert_eq!(black_box(lent.call(&Library, &job)), LOADED),
+        _ => assert_eq!(ffi::check_plan(black_box(&job.bytes)), checked(&plan)),
+    });
+    print_load(name, &plan, &times);
+}
+
+/// The heads of a table of loads with these sides.
+fn load_titles([first, second]: [&str; 2]) {
+    println!(
+        "{:<22} {:>6} {first:>10} {second:>10} {:>7}",
+        "costs", "V", "ratio"
+    );
+}
+
+/// Times loading: by the groups of costs, and on smaller floors; and beside
+/// the check of the plan alone.
 fn compare_loads() {
     println!(
         "Calls on such floors without guides that end before the first turn, by the groups of \
          the costs: ns per edge."
     );
-    println!(
-        "{:<22} {:>6} {:>10} {:>10} {:>7}",
-        "costs", "V", "library", "second", "ratio"
-    );
-    for groups in 1..=4 {
-        compare_load(&format!("of {groups}"), (64, 64), &[groups]);
+    load_titles(["library", "second"]);
+    for groups in GROUPS.chunks(1) {
+        let name = format!("of {}", groups[0]);
+        compare_load(&name, (64, 64), Costs::OfGroups(groups));
     }
-    for size in [(64, 64), (32, 32), (16, 16), (8, 8)] {
-        compare_load("of 1 to 4", size, &[1, 2, 3, 4]);
+    for size in FLOORS.into_iter().rev() {
+        compare_load("of 1 to 4", size, MIXED);
     }
+    println!("The library's calls beside its check of the same plan bytes: ns per edge.");
+    load_titles(["call", "check"]);
+    for (name, costs) in [("of 1 to 4", MIXED), ("100 to 1000", Costs::Ordinary)] {
+        for size in FLOORS {
+            compare_with_check(name, size, costs);
+        }
+    }
+}
+
+/// Makes one call that ends before its first turn and one check, on the floor
+/// of so many vertices.
+fn call_once(vertices: &str, costs: Costs) {
+    let size = FLOORS
+        .into_iter()
+        .find(|(width, height)| (width * height).to_string() == vertices)
+        .expect("64, 256, 1024 or 4096 places");
+    let (plan, job) = load_of(size, costs);
+    assert_eq!(Lent::of(&job).call(&Library, &job), LOADED);
+    assert_eq!(ffi::check_plan(&job.bytes), checked(&plan));
+    println!("{} places, {} lanes", plan.vertices, plan.edges());
 }
 
 /// Times the bench program's text of a job.
@@ -254,16 +336,25 @@ fn compare_text(name: &str, job: &Job) {
     assert_eq!(Library.bench_text(&bytes, &mut other), length);
     assert!(other == text);
     let times = times(|side| {
-        let printed = side.bench_text(black_box(&bytes), &mut text);
+        let printed = SIDES[side].bench_text(black_box(&bytes), &mut text);
         assert_eq!(black_box(printed), length);
     });
     print_line(name, job, rounds, turns, &times);
 }
 
 fn main() {
-    if std::env::args().nth(1).as_deref() == Some("loads") {
-        return compare_loads();
+    let arguments: Vec<String> = std::env::args().skip(1).collect();
+    let arguments: Vec<&str> = arguments.iter().map(String::as_str).collect();
+    match arguments[..] {
+        ["loads"] => compare_loads(),
+        ["once", places] => call_once(places, Costs::Ordinary),
+        ["once", places, "mixed"] => call_once(places, MIXED),
+        _ => compare_all(),
     }
+}
+
+/// Times calls with guides, texts and loading.
+fn compare_all() {
     println!(
         "Whole calls on floors with eight edges at each vertex, eight guides, standard schedule, \
          nothing barred but in the last rows, which bar the class of one edge in twenty; halved \
