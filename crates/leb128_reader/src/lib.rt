@@ -60,20 +60,10 @@ fn number_in(word: u32, at: usize) -> NumberRead
     NumberRead::Value(three + fourth * 2097152, third + 1)
 }
 
-// The number of a bench job at an offset.
+// The number of a bench job at an offset: a group, and up to four after it, as a plan number has them.
 pub fn read_job_number(bytes: &[u8], at: usize) -> NumberRead
     ensures { λ r. ⌜ r ≡ read jobGroups (now (bytes .entry)) at ⌝ }
 {
-    read_groups(bytes, at, 5)
-}
-
-// The number of at most `groups` groups at an offset.
-fn read_groups(bytes: &[u8], at: usize, groups: u32) -> NumberRead
-    ensures { λ r. ⌜ r ≡ read groups (now (bytes .entry)) at ⌝ }
-{
-    if groups == 0 {
-        return NumberRead::Refused(at);
-    }
     if bytes.len() <= at {
         return NumberRead::Refused(at);
     }
@@ -81,7 +71,7 @@ fn read_groups(bytes: &[u8], at: usize, groups: u32) -> NumberRead
     if a < 128 {
         return NumberRead::Value(a as u32, at + 1);
     }
-    let NumberRead::Value(rest, next) = read_groups(bytes, at + 1, groups - 1) else {
+    let NumberRead::Value(rest, next) = read_plan_number(bytes, at + 1) else {
         return NumberRead::Refused(at);
     };
     if rest == 0 {

@@ -326,6 +326,14 @@ fn call_once(vertices: &str, costs: Costs) {
     println!("{} places, {} lanes", plan.vertices, plan.edges());
 }
 
+/// Makes one text of the bench-sized job with such sheets.
+fn text_once(sheets: Sheets) {
+    let job = job(7, 16, 16, sheets);
+    let mut text = vec![0; 300_000];
+    let length = Library.bench_text(&job.bench_bytes(), &mut text);
+    println!("{} places, {length} bytes of text", job.anchor.len());
+}
+
 /// Times the bench program's text of a job.
 fn compare_text(name: &str, job: &Job) {
     let bytes = job.bench_bytes();
@@ -347,6 +355,8 @@ fn main() {
     let arguments: Vec<&str> = arguments.iter().map(String::as_str).collect();
     match arguments[..] {
         ["loads"] => compare_loads(),
+        ["once", "text"] => text_once(Sheets::Sensible),
+        ["once", "text", "halved"] => text_once(Sheets::Halved),
         ["once", places] => call_once(places, Costs::Ordinary),
         ["once", places, "mixed"] => call_once(places, MIXED),
         _ => compare_all(),
