@@ -439,18 +439,19 @@ fn libraries_have_nothing_to_write() {
 /// All relocations are relative to the code: it is position-independent.
 #[test]
 fn libraries_are_position_independent() {
+    let mut count = 0;
     for (name, archive) in EXPORTS {
         let output = Command::new("objdump").arg("-r").arg(archive).output();
         let text = String::from_utf8(output.expect("objdump runs").stdout);
         let text = text.expect("plain text");
         let words = text.split_whitespace();
-        let kinds: Vec<&str> = words.filter(|word| word.starts_with("R_X86_64")).collect();
-        assert!(!kinds.is_empty(), "{name} calls and reads its own parts");
-        for kind in kinds {
+        for kind in words.filter(|word| word.starts_with("R_X86_64")) {
             let relative = ["R_X86_64_PC32", "R_X86_64_PLT32"].contains(&kind);
             assert!(relative, "{name}: {kind}");
+            count += 1;
         }
     }
+    assert!(count > 0, "some library calls and reads its own parts");
 }
 
 /// Each library exports the functions of its crate, needs `memcpy` and
