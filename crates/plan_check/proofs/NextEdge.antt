@@ -18,6 +18,7 @@ use Rattle.graph.specs.declared.PlanRead.the-variants.{Sizes, Refused}
 use Rattle.graph.specs.Rows.{takeNumber, taking, tailRows, headRows, costRows, classRows}
 use Rattle.graph.specs.Plan.{Decoded, accepted, refused, firstAt, leastAfter, past, nextEdge, before, onward, edgesFrom, sizes}
 use Rattle.graph.proofs.Rows.{Passed, take-passed}
+use Rattle.plan_check.specs.Past.{nextAs}
 
 -- ---- the next edge
 
@@ -61,8 +62,8 @@ module _ (v : ℕ) (s : List ℕ) (c : Cursor) where
       (d headAt l h costAt x classAt y end : ℕ) → takeNumber s (c .at) (tailRows v (c .tail)) ≡ Number d headAt →
       l ≡ cond (eqb d 0) (c .least) 0 → takeNumber s headAt (headRows v l) ≡ Number h costAt → takeNumber s costAt costRows ≡ Number x classAt →
       takeNumber s classAt classRows ≡ Number y end →
-      Next (record { tail = c .tail + d; head = h; cost = x; class = y }) (record { at = end; tail = c .tail + d; least = h + 1 }) ≡ nextEdge v s c
-  unfolding nextEdge taking leastAfter past
+      nextAs (c .tail + d) h x y end ≡ nextEdge v s c
+  unfolding nextAs nextEdge taking leastAfter past
   edge-taken d headAt l h costAt x classAt y end a k i j e = rw (a, sym k, i, j, e)
 
 -- ---- edge after edge

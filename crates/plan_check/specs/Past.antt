@@ -1,5 +1,5 @@
--- The cursor past what was read, and that an edge is next: for the contracts of code that goes through a plan that was checked, nothing that a reader must believe.
-use Prim.Native.Nat.{ℕ}
+-- An edge that is next and the cursor past it: for contracts of code that goes through a plan, nothing that a reader must believe.
+use Prim.Native.Nat.{ℕ, _+_}
 use mathlib.Core.List.{List}
 use mathlib.Core.Path.{_≡_}
 use Rattle.graph.specs.declared.Edge.{Edge}
@@ -7,6 +7,10 @@ use Rattle.graph.specs.declared.Cursor.{Cursor}
 use Rattle.graph.specs.declared.EdgeRead.{EdgeRead}
 use Rattle.graph.specs.declared.EdgeRead.the-variants.{Next, Refused}
 use Rattle.graph.specs.Plan.{nextEdge}
+
+-- the edge of these numbers, and the cursor past it
+unfoldable pub nextAs : ℕ → ℕ → ℕ → ℕ → ℕ → EdgeRead
+nextAs t h x y at = Next (record { tail = t; head = h; cost = x; class = y }) (record { at = at; tail = t; least = h + 1 })
 
 -- the cursor past an edge that was read
 unfoldable pub cursorPast : Cursor → EdgeRead → Cursor

@@ -1,7 +1,8 @@
 // The cursor over a plan's edges, which gives the next edge or the refusal.
+ghost use Prim.Native.Nat.{_<_};
 ghost use mathlib.Core.Path.{_≡_};
 ghost use Rattle.graph.specs.Plan.{firstAt, nextEdge};
-ghost use Rattle.plan_check.specs.Past.{HasNext};
+ghost use Rattle.plan_check.specs.Past.{nextAs, HasNext};
 use crate::number;
 use graph::Cursor;
 use graph::Edge;
@@ -18,6 +19,26 @@ pub fn first(at: usize) -> Cursor
         tail: 0,
         least: 0,
     }
+}
+
+// The edge of these numbers, and the cursor past it, which stands at an offset.
+fn next(tail: u32, head: u32, cost: u32, class: u32, at: usize) -> EdgeRead
+    requires { ⌜ head < 4294967295 ⌝ }
+    ensures { λ r. ⌜ r ≡ nextAs tail head cost class at ⌝ }
+{
+    EdgeRead::Next(
+        Edge {
+            tail,
+            head,
+            cost,
+            class,
+        },
+        Cursor {
+            at,
+            tail,
+            least: head + 1,
+        },
+    )
 }
 
 // The next edge of a plan with this many vertices, and the cursor past it; or the refusal of the first of
@@ -37,17 +58,7 @@ pub fn next_edge(cursor: Cursor, bytes: &[u8], vertices: u32) -> EdgeRead
                     Taken::Number(cost, class_at) => match number::take_class(bytes, class_at) {
                         Taken::Refused(n, p) => EdgeRead::Refused(n, p),
                         Taken::Number(class, at) => {
-                            let tail = before + difference;
-                            let least = head + 1;
-                            EdgeRead::Next(
-                                Edge {
-                                    tail,
-                                    head,
-                                    cost,
-                                    class,
-                                },
-                                Cursor { at, tail, least },
-                            )
+                            next(before + difference, head, cost, class, at)
                         }
                     },
                 },
@@ -76,18 +87,5 @@ pub fn next_checked(cursor: Cursor, bytes: &[u8], vertices: u32) -> EdgeRead
     let NumberRead::Value(class, end) = leb128_reader::read_plan_number(bytes, class_at) else {
         return EdgeRead::Refused(1, class_at);
     };
-    let tail = before + difference;
-    EdgeRead::Next(
-        Edge {
-            tail,
-            head,
-            cost,
-            class,
-        },
-        Cursor {
-            at: end,
-            tail,
-            least: head + 1,
-        },
-    )
+    next(before + difference, head, cost, class, end)
 }

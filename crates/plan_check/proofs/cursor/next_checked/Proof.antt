@@ -67,14 +67,14 @@ returns-4 c =
     let d = sym (m .before .before .read-plan-number3 .ensures) ∙ m .cost .given .1 in
     absurd (class-there _ _ _ (k .before .before .before .before .pre) _ _ a _ _ b _ _ d _ (sym (c .before .before .read-plan-number4 .ensures) ∙ c .enum-told4 .given .1))
 
-add-tail : tie.Need-add-tail
-add-tail c =
+add-next : tie.Need-add-next
+add-next c =
     let k = c .before .before .before .before .before .before .before .before .before .before .before .before .before in
     let a = sym (k .before .before .read-plan-number .ensures) ∙ k .difference .given .1 in
     omega (arith, taken-tail _ _ _ _ _ _ (tail-taken _ _ _ (k .before .before .before .before .pre) _ _ a))
 
-add-t20 : tie.Need-add-t20
-add-t20 c =
+next-requires : tie.Need-next-requires
+next-requires c κs =
     let j = c .before .before .before .before .before .before .before .before .before in
     let k = j .before .before .before .before in
     let a = sym (k .before .before .read-plan-number .ensures) ∙ k .difference .given .1 in
@@ -83,15 +83,17 @@ add-t20 c =
 
 returns-5 : tie.Need-returns-5
 returns-5 c =
-    let m = c .before .before .before .before .before in
+    let e = c .before .before in
+    let m = e .before .before .before .before in
     let j = m .before .before .before .before in
     let k = j .before .before .before .before in
     let h = k .before .before .before .before .pre in
     let a = sym (k .before .before .read-plan-number .ensures) ∙ k .difference .given .1 in
     let b = sym (j .before .before .read-plan-number2 .ensures) ∙ j .head .given .1 in
     let d = sym (m .before .before .read-plan-number3 .ensures) ∙ m .cost .given .1 in
-    edge-taken _ _ _ _ _ _ _ _ _ _ _ _ (tail-taken _ _ _ h _ _ a) refl (head-taken _ _ _ h _ _ a _ _ b) (cost-taken _ _ _ h _ _ a _ _ b _ _ d)
-    (class-taken _ _ _ h _ _ a _ _ b _ _ d _ _ (sym (c .before .before .before .read-plan-number4 .ensures) ∙ c .before .class .given .1))
+    c .next .ensures
+    ∙ edge-taken _ _ _ _ _ _ _ _ _ _ _ _ (tail-taken _ _ _ h _ _ a) refl (head-taken _ _ _ h _ _ a _ _ b) (cost-taken _ _ _ h _ _ a _ _ b _ _ d)
+    (class-taken _ _ _ h _ _ a _ _ b _ _ d _ _ (sym (e .before .before .read-plan-number4 .ensures) ∙ e .class .given .1))
 
 pub next-checked-spec : {M : Type 1} → statement M
 next-checked-spec =
@@ -113,6 +115,6 @@ next-checked-spec =
     enum-known-class
     enum-told-4
     returns-4
-    add-tail
-    add-t20
+    add-next
+    next-requires
     returns-5)

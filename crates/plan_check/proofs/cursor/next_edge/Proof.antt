@@ -42,15 +42,15 @@ enum-known-n-4 c = search needs
 enum-known-class : tie.Need-enum-known-class
 enum-known-class c = search needs
 
-add-tail : tie.Need-add-tail
-add-tail c =
+add-next : tie.Need-add-next
+add-next c =
     let m = c .before .before .before .before .before in
     let k = m .before .before .before .before in
     let j = k .before .before .before .before in
     omega (arith, taken-tail _ _ _ _ _ _ (sym (j .before .before .take-tail .ensures) ∙ j .difference .given .1))
 
-add-least : tie.Need-add-least
-add-least c =
+next-requires : tie.Need-next-requires
+next-requires c κs =
     let m = c .before .before .before .before .before in
     let k = m .before .before .before .before in
     omega (arith, k .before .before .before .before, taken-head _ _ _ _ _ _ (sym (k .before .before .take-head .ensures) ∙ k .head .given .1))
@@ -78,10 +78,12 @@ returns-4 c =
 
 returns-5 : tie.Need-returns-5
 returns-5 c =
-    let m = c .before .before .before .before .before in
+    let e = c .before .before in
+    let m = e .before .before .before .before in
     let k = m .before .before .before .before in
     let j = k .before .before .before .before in
-    edge-taken _ _ _ _ _ _ _ _ _ _ _ _ (sym (j .before .before .take-tail .ensures) ∙ j .difference .given .1) refl (sym (k .before .before .take-head .ensures) ∙ k .head .given .1) (sym (m .before .before .take-cost .ensures) ∙ m .cost .given .1) (sym (c .before .before .before .take-class .ensures) ∙ c .before .class .given .1)
+    c .next .ensures
+    ∙ edge-taken _ _ _ _ _ _ _ _ _ _ _ _ (sym (j .before .before .take-tail .ensures) ∙ j .difference .given .1) refl (sym (k .before .before .take-head .ensures) ∙ k .head .given .1) (sym (m .before .before .take-cost .ensures) ∙ m .cost .given .1) (sym (e .before .before .take-class .ensures) ∙ e .class .given .1)
 
 pub next-edge-spec : {M : Type 1} → statement M
 next-edge-spec =
@@ -99,8 +101,8 @@ next-edge-spec =
     take-class-requires
     enum-known-n-4
     enum-known-class
-    add-tail
-    add-least
+    add-next
+    next-requires
     returns
     returns-2
     returns-3
