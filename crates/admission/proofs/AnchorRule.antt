@@ -21,7 +21,7 @@ use Rattle.plan_check.proofs.Checked.{sized-by, checked-sizes}
 use Rattle.search.specs.Call.{row, edgesRow}
 use Rattle.admission.specs.declared.consistency.EdgesRead.{EdgesRead}
 use Rattle.admission.specs.declared.consistency.EdgesRead.the-variants.{Whole, Refused}
-use Rattle.admission.specs.Broken.{breaks, firstBroken, edgesRead}
+use Rattle.admission.specs.Broken.{breaks, firstBroken, brokenAfter, edgesRead}
 
 -- ---- edge after edge
 
@@ -35,18 +35,14 @@ unfolding edgesRead from
 from-none h b (accepted v es) = rw (le-ltb b 0 (omega arith))
 from-none h b (refused n p) = refl
 
--- the first after one more edge
-unfoldable pub stepped : List ℕ → ℕ → ℕ → Edge → ℕ
-stepped h b i e = cond (breaks h e && ltb i b) i b
-
 module _ (h : List ℕ) (m i : ℕ) (more : i < m) (e : Edge) where
   -- an edge before it breaks the rule
   module _ (b : ℕ) (l : b < i) where
-    stays : stepped h b i e ≡ b
-    unfolding stepped
+    stays : brokenAfter h b i e ≡ b
+    unfolding brokenAfter
     stays = rw (and-false (breaks h e) (ltb i b) (λ t. le-ltb i b (omega (arith, l))))
 
-    from-broken : (d : Decoded) → from h b i (before e d) ≡ from h (stepped h b i e) (suc i) d
+    from-broken : (d : Decoded) → from h b i (before e d) ≡ from h (brokenAfter h b i e) (suc i) d
     unfolding from before
     from-broken (accepted v es) = rw (stays, lt-ltb b i l, lt-ltb b (suc i) (omega (arith, l)))
     from-broken (refused n p) = refl
@@ -59,8 +55,8 @@ module _ (h : List ℕ) (m i : ℕ) (more : i < m) (e : Edge) where
   from-kept-by true q es = rw (q, lt-ltb i m more, lt-ltb i (suc i) (omega arith))
   from-kept-by false q es = rw (q, le-ltb m (suc i) (omega (arith, more)))
 
-  from-kept : (d : Decoded) → from h m i (before e d) ≡ from h (stepped h m i e) (suc i) d
-  unfolding from before stepped
+  from-kept : (d : Decoded) → from h m i (before e d) ≡ from h (brokenAfter h m i e) (suc i) d
+  unfolding from before brokenAfter
   from-kept (accepted v es) = rw (le-ltb m i (omega (arith, more))) (ap Whole (from-kept-by (breaks h e) refl es))
   from-kept (refused n p) = refl
 
@@ -86,7 +82,7 @@ module _ (v m : ℕ) (s : List ℕ) (at : ℕ) (h : List ℕ) where
     unfolding edgesFrom
     told-one = let z : m - i ≡ suc (m - suc i) = omega (arith, more) in k .told ∙ ap (λ (x : ℕ). from h b i (edgesFrom v x s c)) z
 
-    from-next : (e : Edge) (d : Decoded) → (b < i) ⊎ (b ≡ m) → from h b i (before e d) ≡ from h (stepped h b i e) (suc i) d
+    from-next : (e : Edge) (d : Decoded) → (b < i) ⊎ (b ≡ m) → from h b i (before e d) ≡ from h (brokenAfter h b i e) (suc i) d
     from-next e d (inl l) = from-broken h m i more e b l d
     from-next e d (inr q) = rw q (from-kept h m i more e d)
 
@@ -96,8 +92,8 @@ module _ (v m : ℕ) (s : List ℕ) (at : ℕ) (h : List ℕ) where
     known-by false (inr q) = inr q
 
     pub passed-next :
-        (e : Edge) (c′ : Cursor) (b′ : ℕ) → nextEdge v s c ≡ Next e c′ → b′ ≡ cond (breaks h e && ltb i b) i b → Passed v m s at h (i + 1) c′ b′
-    unfolding onward stepped
+        (e : Edge) (c′ : Cursor) (b′ : ℕ) → nextEdge v s c ≡ Next e c′ → b′ ≡ brokenAfter h b i e → Passed v m s at h (i + 1) c′ b′
+    unfolding onward brokenAfter
     passed-next e c′ b′ q r =
         rw (add-one i, r)
         record {

@@ -12,7 +12,7 @@ use Rattle.graph.specs.declared.Header.the-variants as headerRead
 use Rattle.graph.specs.Plan.{accepted, refused, header, afterHeader, decode, firstAt, edgesFrom}
 use Rattle.graph.specs.Lists.{Fault, edgesIn}
 use Rattle.graph.proofs.Tests.{or-left, or-right, and-true, not-false}
-use Rattle.search.specs.Call.{unfitSchedule, row, first, endsRow, tablesRow, scheduleRow, memoryRow, goalRow, edgesRow, faultIn, faultOf, planEdges, jobIn, jobFrom, jobOf}
+use Rattle.search.specs.Call.{unfitSchedule, row, first, endsRow, tablesRow, scheduleRow, memoryRow, goalRow, faultIn, faultOf, planEdges, jobIn, jobFrom, jobOf}
 use Rattle.admission.specs.declared.Query.{Query}
 use Rattle.admission.specs.declared.Lengths.{Lengths}
 use Rattle.admission.specs.declared.Verdict.{Verdict}

@@ -1,6 +1,6 @@
 -- The first edge that breaks the anchor rule, found on the way through a plan: for contracts of private functions alone, nothing that a reader must believe.
 use Prim.Native.Nat.{ℕ, suc, _+_}
-use mathlib.Core.Bool.{Bool, cond}
+use mathlib.Core.Bool.{Bool, cond, _&&_}
 use mathlib.Core.List.{List, [], _∷_}
 use lib.ListN.{getD}
 use lib.Dec.{ltb}
@@ -17,6 +17,10 @@ breaks h e = ltb (e .cost + getD h (e .head) 0) (getD h (e .tail) 0)
 unfoldable pub firstBroken : List ℕ → ℕ → List Edge → ℕ
 firstBroken h i [] = i
 firstBroken h i (e ∷ es) = cond (breaks h e) i (firstBroken h (suc i) es)
+
+-- the first edge that breaks the rule, b, after edge i was tried too
+unfoldable pub brokenAfter : List ℕ → ℕ → ℕ → Edge → ℕ
+brokenAfter h b i e = cond (breaks h e && ltb i b) i b
 
 unfoldable pub edgesRead : List ℕ → Decoded → EdgesRead
 edgesRead h (accepted v es) = Whole (firstBroken h 0 es)

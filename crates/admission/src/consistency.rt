@@ -1,9 +1,7 @@
 // One pass over a plan's edges: the first refusal, and on the way the anchor rule, h0(tail) ≤ cost + h0(head) on
 // every edge.
 ghost use mathlib.Core.Path.{_≡_};
-ghost use mathlib.Core.Bool.{cond, _&&_};
 ghost use lib.ListN.{getD};
-ghost use lib.Dec.{ltb};
 ghost use Rattle.graph.specs.Plan.{firstAt, edgesFrom};
 ghost use Rattle.admission.specs.Broken as rule;
 use graph::Edge;
@@ -35,7 +33,7 @@ fn breaks(edge: Edge, anchor: &[u32]) -> bool
 
 // The first edge that breaks the rule, after edge i was tried.
 fn first_broken(broken: usize, i: usize, edge: Edge, anchor: &[u32]) -> usize
-    ensures { λ r. ⌜ r ≡ cond (rule.breaks (now (anchor .entry)) edge && ltb i broken) i broken ⌝ }
+    ensures { λ r. ⌜ r ≡ rule.brokenAfter (now (anchor .entry)) broken i edge ⌝ }
 {
     if !breaks(edge, anchor) {
         return broken;

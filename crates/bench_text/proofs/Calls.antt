@@ -21,8 +21,8 @@ use Rattle.job.specs.Texts.{Texts}
 use Rattle.schedule.specs.declared.default_schedule.DefaultSchedule.{DefaultSchedule}
 use Rattle.schedule.specs.DefaultSchedule.{pairsIn, initial}
 use Rattle.schedule.proofs.DefaultSchedule.{loads, standard-fits}
-use Rattle.job_reader.specs.UpToEdges.{readUpToEdges}
-use Rattle.job_reader.proofs.UpToEdges.{Asks, told}
+use Rattle.job_reader.specs.ButEdges.{readButEdges}
+use Rattle.job_reader.proofs.ButEdges.{Asks, told}
 use Rattle.bench_text.specs.Stored.{Stored}
 
 -- ---- numbers stored at an array's front
@@ -54,9 +54,9 @@ standard-prefix d e =
       size = sym (length-take-le (d .count) (d .numbers) fits);
     }
 
--- ---- a job that was read up to its plan's edges
+-- ---- a job that was read but for its plan's edges
 
-module _ (s : List ℕ) (f : Front) (v : ℕ) (h : readUpToEdges s ≡ Accepted f v) where
+module _ (s : List ℕ) (f : Front) (v : ℕ) (h : readButEdges s ≡ Accepted f v) where
   abbrev asks : Asks s f v (jobRead s)
   asks = told s .accepted f v h
 

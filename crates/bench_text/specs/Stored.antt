@@ -1,14 +1,14 @@
--- A job read up to its plan's edges, its factors and tables stored: for the contract of a private function alone, nothing that a reader must believe.
+-- A job read but for its plan's edges, its factors and tables stored: for the contract of a private function alone, nothing that a reader must believe.
 use Prim.Native.Nat.{ℕ}
 use mathlib.Core.Path.{_≡_}
 use mathlib.Core.List.{List}
 use Rattle.job.specs.declared.Front.{Front}
 use Rattle.job.specs.declared.JobRead.the-variants.{Accepted}
 use Rattle.job.specs.Asked.{factorsOf, tablesOf}
-use Rattle.job_reader.specs.UpToEdges.{readUpToEdges}
+use Rattle.job_reader.specs.ButEdges.{readButEdges}
 
 -- its schedule and its tables
 pub record Stored (s : List ℕ) (f : Front) (v : ℕ) (factors numbers : List ℕ) : Type 0 where
-  pub accepted : readUpToEdges s ≡ Accepted f v
+  pub accepted : readButEdges s ≡ Accepted f v
   pub schedule : factors ≡ factorsOf s f
   pub tables : numbers ≡ tablesOf s f v

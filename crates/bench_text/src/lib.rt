@@ -9,7 +9,7 @@ use job::JobRead;
 pub fn bench_text(job: &[u8], out: &mut [u8]) -> usize
     ensures { λ r. ⌜ Prints (now (job .entry)) (now (out .entry)) r (now (out .exit)) ⌝ }
 {
-    match job_reader::read(job) {
+    match job_reader::read_but_edges(job) {
         JobRead::Accepted(front, vertices) => planning::plan_job(out, job, front, vertices),
         JobRead::Refused(n, p) => printing::put_refused(out, n, p),
     }

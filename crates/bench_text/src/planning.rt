@@ -1,10 +1,10 @@
-// The call that a job asks which was read up to its plan's edges, and its text.
+// The call that a job asks which was read but for its plan's edges, and its text.
 ghost use mathlib.Core.Path.{_≡_};
 ghost use Rattle.job.specs.declared.JobRead.the-variants.{Accepted};
 ghost use Rattle.job.specs.Asked.{callWith, callAsked};
 ghost use Rattle.job.specs.Printed.{callText};
 ghost use Rattle.job.specs.Texts.{Texts};
-ghost use Rattle.job_reader.specs.UpToEdges.{readUpToEdges};
+ghost use Rattle.job_reader.specs.ButEdges.{readButEdges};
 ghost use Rattle.bench_text.specs.Stored.{Stored};
 use job::Front;
 use job_reader::storing;
@@ -85,7 +85,7 @@ fn plan_stored(
 
 // Such a job: its factors and tables are stored, and what follows.
 pub fn plan_job(out: &mut [u8], job: &[u8], front: Front, vertices: u32) -> usize
-    requires { ⌜ readUpToEdges (now job) ≡ Accepted front vertices ⌝ }
+    requires { ⌜ readButEdges (now job) ≡ Accepted front vertices ⌝ }
     ensures { λ r. ⌜ Texts (callText (callAsked (now (job .entry)) front vertices)) (now (out .entry)) r (now (out .exit)) ⌝ }
 {
     let factors = 2 * front.round_count as usize;

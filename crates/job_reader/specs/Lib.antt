@@ -1,2 +1,2 @@
 pub mod Stored
-pub mod UpToEdges
+pub mod ButEdges

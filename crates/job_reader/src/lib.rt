@@ -1,5 +1,5 @@
-// A bench job read whole, refused or accepted: plan length, the plan, start, goal, barred number, allowance,
-// rounds and factors, guide count, anchor table, guide sheets.
+// A bench job read, but for its plan's edges, and refused or accepted: plan length, the plan, start, goal, barred
+// number, allowance, rounds and factors, guide count, anchor table, guide sheets.
 mod front;
 mod numbers;
 pub mod storing;
@@ -7,7 +7,7 @@ pub mod storing;
 ghost use mathlib.Core.Path.{_≡_};
 ghost use Rattle.graph.specs.Plan.{firstAt, edgesFrom, header};
 ghost use Rattle.job.specs.Reading.{afterSizes};
-ghost use Rattle.job_reader.specs.UpToEdges.{edgesFirst, afterHeader, readUpToEdges};
+ghost use Rattle.job_reader.specs.ButEdges.{edgesFirst, afterHeader, readButEdges};
 use admission::consistency;
 use admission::consistency::EdgesRead;
 use graph::Header;
@@ -56,7 +56,7 @@ fn edges_first(plan: &[u8], vertices: u32, edges: u32, at: usize, failed: JobRea
     }
 }
 
-// The job after its front: its plan up to the edges, and its tables.
+// The job after its front: its plan's V and M, and its tables.
 fn after_front(job: &[u8], plan: &[u8], front: Front) -> JobRead
     ensures { λ r. ⌜ r ≡ afterHeader (now (job .entry)) front (now (plan .entry)) (header (now (plan .entry))) ⌝ }
 {
@@ -74,8 +74,8 @@ fn after_front(job: &[u8], plan: &[u8], front: Front) -> JobRead
 
 // The whole job, but that its plan's edges are left to the call where all else passes: accepted, with V of its plan;
 // or refused, with 14 or by its plan.
-pub fn read(job: &[u8]) -> JobRead
-    ensures { λ r. ⌜ r ≡ readUpToEdges (now (job .entry)) ⌝ }
+pub fn read_but_edges(job: &[u8]) -> JobRead
+    ensures { λ r. ⌜ r ≡ readButEdges (now (job .entry)) ⌝ }
 {
     if MAX_JOB_BYTES < job.len() {
         return JobRead::Refused(14, 0);

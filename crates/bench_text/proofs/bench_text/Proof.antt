@@ -5,7 +5,7 @@ use mathlib.Core.List.{List}
 use Rattle.job.specs.Printed.{textOf, benchText}
 use Rattle.job.specs.Texts.{Texts, Prints}
 use Rattle.job.proofs.Turns.{every-turn}
-use Rattle.job_reader.proofs.UpToEdges.{same-text}
+use Rattle.job_reader.proofs.ButEdges.{same-text}
 use borrow.Author.Needs.{needs}
 use Rattle.bench_text.proofs.bench_text.Statement.{statement}
 use Rattle.bench_text.proofs.bench_text.Tie as tie
@@ -13,14 +13,14 @@ use Rattle.bench_text.proofs.bench_text.Tie as tie
 printed : {s old : List ℕ} {r : ℕ} {new : List ℕ} → Texts (benchText s) old r new → Prints s old r new
 printed {s = s} t = record { texts = t; every-turn = every-turn s }
 
-read-requires : tie.Need-read-requires
-read-requires c κs = search needs
+read-but-edges-requires : tie.Need-read-but-edges-requires
+read-but-edges-requires c κs = search needs
 
 enum-known-front : tie.Need-enum-known-front
 enum-known-front c = search needs
 
 plan-job-requires : tie.Need-plan-job-requires
-plan-job-requires c κs = sym (c .before .before .before .before .read .ensures) ∙ c .before .before .front .given .1
+plan-job-requires c κs = sym (c .before .before .before .before .read-but-edges .ensures) ∙ c .before .before .front .given .1
 
 enum-known-n : tie.Need-enum-known-n
 enum-known-n c = search needs
@@ -33,20 +33,20 @@ same-length c = search needs
 
 returns : tie.Need-returns
 unfolding textOf
-returns c = printed (rw (same-text _, sym (c .before .before .before .before .before .before .before .read .ensures) ∙ c .before .before .before .before .before .front .given .1) (c .before .before .plan-job .ensures))
+returns c = printed (rw (same-text _, sym (c .before .before .before .before .before .before .before .read-but-edges .ensures) ∙ c .before .before .before .before .before .front .given .1) (c .before .before .plan-job .ensures))
 
 same-length-2 : tie.Need-same-length-2
 same-length-2 c = search needs
 
 returns-2 : tie.Need-returns-2
 unfolding textOf
-returns-2 c = printed (rw (same-text _, sym (c .before .before .before .before .before .before .before .read .ensures) ∙ c .before .before .before .before .before .n .given .1) (c .before .before .put-refused .ensures))
+returns-2 c = printed (rw (same-text _, sym (c .before .before .before .before .before .before .before .read-but-edges .ensures) ∙ c .before .before .before .before .before .n .given .1) (c .before .before .put-refused .ensures))
 
 pub bench-text-spec : {M : Type 1} → statement M
 bench-text-spec =
     tie.close
     (tie.spec
-    read-requires
+    read-but-edges-requires
     enum-known-front
     plan-job-requires
     enum-known-n

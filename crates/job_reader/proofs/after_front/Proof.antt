@@ -1,7 +1,7 @@
 -- `after_front` meets its contract: the header, then V, M and the tables, or the edges before them.
 use mathlib.Core.Path.{sym, _∙_}
-use Rattle.job_reader.specs.UpToEdges.{afterHeader}
-use Rattle.job_reader.proofs.UpToEdges.{sized-kept, sized-failed}
+use Rattle.job_reader.specs.ButEdges.{afterHeader}
+use Rattle.job_reader.proofs.ButEdges.{sized-kept, sized-failed}
 use borrow.Author.Needs.{needs}
 use Rattle.job_reader.proofs.after_front.Statement.{statement}
 use Rattle.job_reader.proofs.after_front.Tie as tie

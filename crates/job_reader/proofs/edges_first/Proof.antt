@@ -1,6 +1,6 @@
 -- `edges_first` meets its contract.
 use mathlib.Core.Path.{sym, _∙_}
-use Rattle.job_reader.proofs.UpToEdges.{first-passed, first-refused}
+use Rattle.job_reader.proofs.ButEdges.{first-passed, first-refused}
 use borrow.Author.Needs.{needs}
 use Rattle.job_reader.proofs.edges_first.Statement.{statement}
 use Rattle.job_reader.proofs.edges_first.Tie as tie

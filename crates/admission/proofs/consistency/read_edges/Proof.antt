@@ -1,6 +1,5 @@
 -- `read_edges` meets its contract: the edges before i were read, and one of them breaks the rule first, or none did.
 use Prim.Native.Nat.{_-_}
-use native.Mathlib.Omega.{arith}
 use mathlib.Core.Path.{sym, _∙_}
 use borrow.Author.Needs.{needs}
 use Rattle.admission.proofs.AnchorRule.{Passed, passed-none, passed-next, passed-refused, passed-over, passed-all}

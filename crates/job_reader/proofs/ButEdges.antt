@@ -1,4 +1,4 @@
--- What a job read up to its plan's edges is: refused as it is read; or with all its parts, and accepted unless the plan's edges refuse it.
+-- What a job read but for its plan's edges is: refused as it is read; or with all its parts, and accepted unless the plan's edges refuse it.
 use Prim.Native.Nat.{ℕ}
 use native.Mathlib.Omega.{arith}
 use mathlib.Core.Path.{_≡_, refl, sym, ap, _∙_, subst}
@@ -10,7 +10,6 @@ use lib.Dec.{ltb}
 use Rattle.graph.specs.declared.Header.{Header}
 use Rattle.graph.specs.declared.Header.the-variants.{Counts}
 use Rattle.graph.specs.declared.Header.the-variants as headerRead
-use Rattle.graph.specs.declared.PlanRead.the-variants as checked
 use Rattle.graph.specs.Plan.{Decoded, accepted, refused, firstAt, edgesFrom, header, decode, sizes}
 use Rattle.graph.specs.Plan as plan
 use Rattle.graph.proofs.Plan.{Accepts, accepts}
@@ -28,7 +27,7 @@ use Rattle.job.specs.Reading.{maxJobBytes, planOf, afterSizes, afterPlan, after
 use Rattle.job.specs.Printed.{textOf, benchText}
 use Rattle.job.proofs.Accepted.{Parts, parts-of}
 use Rattle.job.proofs.Refusals.{plan-text}
-use Rattle.job_reader.specs.UpToEdges.{edgesFirst, orEdges, afterHeader, upToEdges, readUpToEdges}
+use Rattle.job_reader.specs.ButEdges.{edgesFirst, orEdges, afterHeader, butEdges, readButEdges}
 
 -- the plan's edges refuse the job
 pub record EdgesRefuse (s : List ℕ) (f : Front) (r : JobRead) : Type 0 where
@@ -37,13 +36,13 @@ pub record EdgesRefuse (s : List ℕ) (f : Front) (r : JobRead) : Type 0 where
   pub plan : decode (planOf s f) ≡ refused number position
   pub is : r ≡ Refused number position
 
--- the parts of a job that was read up to its plan's edges, and what it is read as, r
+-- the parts of a job that was read but for its plan's edges, and what it is read as, r
 pub record Asks (s : List ℕ) (f : Front) (v : ℕ) (r : JobRead) : Type 0 where
   pub edges : ℕ
   pub parts : Parts s f v edges
   pub either : (r ≡ Accepted f v) ⊎ EdgesRefuse s f r
 
--- r is the job read up to its plan's edges, and j the whole job read
+-- r is the job read but for its plan's edges, and j the whole job read
 pub record Told (s : List ℕ) (r j : JobRead) : Type 0 where
   pub refused : (n p : ℕ) → r ≡ Refused n p → j ≡ Refused n p
   pub accepted : (f : Front) (v : ℕ) → r ≡ Accepted f v → Asks s f v j
@@ -96,17 +95,17 @@ module _ (s : List ℕ) where
     told-header (Counts v m at) e = told-edges v m at e (edgesFrom v m (planOf s g) (firstAt at)) (afterSizes s g v m) refl refl
     told-header (headerRead.Refused n p) e = told-refused n p
 
-  told-front : (r : FrontRead) → front s ≡ r → Told s (upToEdges s r) (afterFront s r)
-  unfolding upToEdges afterFront decode
+  told-front : (r : FrontRead) → front s ≡ r → Told s (butEdges s r) (afterFront s r)
+  unfolding butEdges afterFront decode
   told-front (Whole g) e = told-header g e (header (planOf s g)) refl
   told-front frontRead.Refused e = told-refused 14 0
 
-  told-by : (b : Bool) → Told s (cond b (Refused 14 0) (upToEdges s (front s))) (cond b (Refused 14 0) (afterFront s (front s)))
+  told-by : (b : Bool) → Told s (cond b (Refused 14 0) (butEdges s (front s))) (cond b (Refused 14 0) (afterFront s (front s)))
   told-by true = told-refused 14 0
   told-by false = told-front (front s) refl
 
-  pub told : Told s (readUpToEdges s) (jobRead s)
-  unfolding readUpToEdges jobRead
+  pub told : Told s (readButEdges s) (jobRead s)
+  unfolding readButEdges jobRead
   told = told-by (ltb maxJobBytes (length s))
 
 -- ---- its text is the whole job's
@@ -116,13 +115,13 @@ module _ (s : List ℕ) where
   asked-text f v (inl e) = ap (textOf s) e
   asked-text f v (inr e) = ap (textOf s) (e .is) ∙ plan-text s f v (e .number) (e .position) (e .plan)
 
-  text-by : (r : JobRead) → readUpToEdges s ≡ r → textOf s (jobRead s) ≡ textOf s r
+  text-by : (r : JobRead) → readButEdges s ≡ r → textOf s (jobRead s) ≡ textOf s r
   text-by (Accepted f v) e = asked-text f v (told s .accepted f v e .either)
   text-by (Refused n p) e = ap (textOf s) (told s .refused n p e)
 
-  pub same-text : benchText s ≡ textOf s (readUpToEdges s)
+  pub same-text : benchText s ≡ textOf s (readButEdges s)
   unfolding benchText
-  same-text = text-by (readUpToEdges s) refl
+  same-text = text-by (readButEdges s) refl
 
 -- ---- V, M and the tables, x; then the edges, read under any anchor table
 

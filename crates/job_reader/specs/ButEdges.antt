@@ -1,4 +1,4 @@
--- A bench job read up to its plan's edges, which the call checks wherever all else passes: for the contract of `read`, nothing that a reader must believe.
+-- A bench job read but for its plan's edges, which the call checks wherever all else passes: for the contract of `read_but_edges`, nothing that a reader must believe.
 use Prim.Native.Nat.{ℕ}
 use mathlib.Core.Bool.{cond}
 use mathlib.Core.List.{List}
@@ -30,9 +30,9 @@ unfoldable pub afterHeader : List ℕ → Front → List ℕ → Header → JobR
 afterHeader s f plan (Counts v m at) = orEdges (edgesFrom v m plan (firstAt at)) (afterSizes s f v m)
 afterHeader s f plan (headerRead.Refused n p) = Refused n p
 
-unfoldable pub upToEdges : List ℕ → FrontRead → JobRead
-upToEdges s frontRead.Refused = Refused 14 0
-upToEdges s (Whole f) = afterHeader s f (planOf s f) (header (planOf s f))
+unfoldable pub butEdges : List ℕ → FrontRead → JobRead
+butEdges s frontRead.Refused = Refused 14 0
+butEdges s (Whole f) = afterHeader s f (planOf s f) (header (planOf s f))
 
-unfoldable pub readUpToEdges : List ℕ → JobRead
-readUpToEdges s = cond (ltb maxJobBytes (length s)) (Refused 14 0) (upToEdges s (front s))
+unfoldable pub readButEdges : List ℕ → JobRead
+readButEdges s = cond (ltb maxJobBytes (length s)) (Refused 14 0) (butEdges s (front s))
