@@ -5,12 +5,15 @@
 //!
 //! With `once PLACES` it makes one such call and one check and ends, so that the
 //! instructions of either can be counted; `once PLACES mixed` does it with costs
-//! of one to four groups:
+//! of one to four groups; `once text` and `once text halved` make one text of the
+//! bench-sized job:
 //!
 //!     valgrind --tool=callgrind --callgrind-out-file=/dev/null \
 //!         --toggle-collect=secondcoop_plan bench_planner once 4096
 //!     valgrind --tool=callgrind --callgrind-out-file=/dev/null \
 //!         --toggle-collect=secondcoop_check_plan bench_planner once 4096
+//!     valgrind --tool=callgrind --callgrind-out-file=/dev/null \
+//!         --toggle-collect=secondcoop_bench_text bench_planner once text
 
 use std::hint::black_box;
 
