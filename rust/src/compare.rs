@@ -38,6 +38,7 @@ impl Codec for Library {
     fn read_plan_number(&self, bytes: &[u8], at: usize) -> Figures {
         ffi::read_plan_number(bytes, at)
     }
+    #[inline]
     fn read_job_number(&self, bytes: &[u8], at: usize) -> Figures {
         ffi::read_job_number(bytes, at)
     }
@@ -97,6 +98,7 @@ impl Codec for Reference {
     fn read_plan_number(&self, bytes: &[u8], at: usize) -> Figures {
         two_values(reference::read_plan_number(bytes, at))
     }
+    #[inline]
     fn read_job_number(&self, bytes: &[u8], at: usize) -> Figures {
         two_values(reference::read_job_number(bytes, at))
     }

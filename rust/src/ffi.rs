@@ -137,6 +137,7 @@ pub fn read_plan_number(bytes: &[u8], at: usize) -> Figures {
     })
 }
 
+#[inline]
 pub fn read_job_number(bytes: &[u8], at: usize) -> Figures {
     // SAFETY: as above.
     figures_of(|figures| unsafe {

@@ -16,6 +16,7 @@ pub mod guarded;
 pub mod input;
 pub mod jobs;
 pub mod lead;
+pub mod numbers;
 pub mod planner;
 pub mod planners;
 pub mod random;

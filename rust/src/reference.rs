@@ -50,6 +50,7 @@ pub fn read_plan_number(bytes: &[u8], at: usize) -> Result<(u32, usize), Refusal
 }
 
 /// Reads the number of a bench job at an offset: up to five groups and 32 bits.
+#[inline]
 pub fn read_job_number(bytes: &[u8], at: usize) -> Result<(u32, usize), Refusal> {
     let Some(rest) = bytes.get(at..) else {
         return refuse(1, at);

@@ -2,174 +2,24 @@
 //! of the bytes, every damaged form, every short slice, offsets past the end,
 //! memory that ends with the bytes; and that faulty readers are told.
 
-use std::env;
-use std::os::unix::process::ExitStatusExt;
-use std::process::Command;
 use std::thread;
 
 use secondcoop_tests::compare::{Codec, Library, Reference};
 use secondcoop_tests::fenced::Fenced;
 use secondcoop_tests::ffi::Figures;
 use secondcoop_tests::generate;
+use secondcoop_tests::numbers::{self, Groups, Laid, PlanNumbers, Reader, MEMORY};
 use secondcoop_tests::random::Random;
 
 /// Plan numbers are below this.
 const NUMBERS: u32 = 1 << 28;
 /// 0 to 5 bytes stand between a number and the end.
 const DISTANCES: usize = 6;
-/// The top bits of none to four groups that another group follows.
-const MORE: [u32; 5] = [0, 0x80, 0x8080, 0x80_8080, 0x8080_8080];
-/// What stands behind: groups that end a number and groups that do not. Their
-/// count is odd, so that each of them stands behind each group.
-const BEHIND: [u64; 11] = [
-    0,
-    u64::MAX,
-    0x8080_8080_8080_8080,
-    0x0101_0101_0101_0101,
-    0x7F7F_7F7F_7F7F_7F7F,
-    0x00FF_00FF_00FF_00FF,
-    0xFF00_FF00_FF00_FF00,
-    0x0180_0180_0180_0180,
-    0x8001_8001_8001_8001,
-    0xC07F_40BF_FE01_8055,
-    0x2A00_80AA_0381_FFFF,
-];
-/// Bytes that hold a number, what is before it and what stands behind.
-const MEMORY: usize = 24;
 
-/// Bytes to read a number from, and what stands behind their end.
-#[derive(Clone, Copy)]
-struct Laid {
-    memory: [u8; MEMORY],
-    length: usize,
-    at: usize,
-}
-
-impl Laid {
-    /// Nothing laid yet; what stays before a number would not end one.
-    fn new() -> Self {
-        Laid {
-            memory: [0x81; MEMORY],
-            length: 0,
-            at: 0,
-        }
-    }
-
-    /// The bytes that a reader is lent.
-    #[inline(always)]
-    fn bytes(&self) -> &[u8] {
-        &self.memory[..self.length]
-    }
-
-    /// Puts so many bytes of a word, its lowest first, at an offset, which is
-    /// 8 at most, and ends there. The salt selects what stands behind.
-    #[inline(always)]
-    fn lay(&mut self, word: u32, count: usize, at: usize, salt: u32) {
-        let behind = BEHIND[salt as usize % BEHIND.len()];
-        let first = u64::from(word) | behind << (8 * count);
-        self.memory[at..at + 8].copy_from_slice(&first.to_le_bytes());
-        self.memory[at + 8..at + 16].copy_from_slice(&behind.to_le_bytes());
-        self.at = at;
-        self.length = at + count;
-    }
-}
-
-/// Who reads the number at an offset.
-trait Reader: Fn(&Laid) -> Figures + Sync {}
-
-impl<R: Fn(&Laid) -> Figures + Sync> Reader for R {}
+type Seen = numbers::Seen<PlanNumbers>;
 
 fn library(laid: &Laid) -> Figures {
-    Library.read_plan_number(laid.bytes(), laid.at)
-}
-
-/// Whether figures are equal, one by one, as they are written: as lists they
-/// take twice the time of all reads.
-#[inline(always)]
-fn same(one: &Figures, other: &Figures) -> bool {
-    one[0] == other[0] && one[1] == other[1] && one[2] == other[2] && one[3] == other[3]
-}
-
-/// What a check has seen.
-#[derive(Default)]
-struct Seen {
-    reads: u64,
-    wrong: Option<String>,
-}
-
-impl Seen {
-    /// Reads on both sides, which must give the answer that is known, or else
-    /// the same one.
-    #[inline(always)]
-    fn read(&mut self, reader: &impl Reader, laid: &Laid, known: Option<Figures>) {
-        self.reads += 1;
-        let second = Reference.read_plan_number(laid.bytes(), laid.at);
-        let answer = reader(laid);
-        let known = known.unwrap_or(second);
-        if !same(&answer, &known) || !same(&second, &known) {
-            self.note(laid, [answer, second, known]);
-        }
-    }
-
-    /// Reads with 0 to 5 bytes more before the end.
-    #[inline(always)]
-    fn read_at_each_distance(&mut self, reader: &impl Reader, laid: &mut Laid, known: Figures) {
-        let nearest = laid.length;
-        for distance in 0..DISTANCES {
-            laid.length = nearest + distance;
-            self.read(reader, laid, Some(known));
-        }
-    }
-
-    /// Keeps the first answer that is wrong.
-    #[cold]
-    fn note(&mut self, laid: &Laid, [answer, second, known]: [Figures; 3]) {
-        let (bytes, at) = (laid.bytes(), laid.at);
-        self.wrong.get_or_insert_with(|| {
-            format!("answer {answer:?}, second {second:?}, right {known:?}: {bytes:02X?} at {at}")
-        });
-    }
-
-    fn add(&mut self, other: Seen) {
-        self.reads += other.reads;
-        self.wrong = self.wrong.take().or(other.wrong);
-    }
-
-    /// Nothing is wrong in so many reads.
-    fn must_be_right(self, name: &str, reads: u64) {
-        println!("{name}: {} reads", self.reads);
-        assert_eq!(self.wrong, None);
-        assert_eq!(self.reads, reads);
-    }
-}
-
-/// The bytes of a number's groups as a word, the lowest first; `more` has the
-/// top bits.
-fn word_of(number: u32, more: u32) -> u32 {
-    let groups = [0, 7, 14, 21].map(|shift| number >> shift & 0x7F);
-    groups[0] | groups[1] << 8 | groups[2] << 16 | groups[3] << 24 | more
-}
-
-/// How many groups the shortest form of a number has.
-fn groups_of(number: u32) -> usize {
-    match number {
-        0..=127 => 1,
-        128..=16_383 => 2,
-        16_384..=2_097_151 => 3,
-        _ => 4,
-    }
-}
-
-/// Each of some numbers in its shortest form, at each distance.
-fn read_numbers(reader: &impl Reader, numbers: impl Iterator<Item = u32>) -> Seen {
-    let (mut seen, mut laid) = (Seen::default(), Laid::new());
-    for number in numbers {
-        let (groups, at) = (groups_of(number), number as usize % 5);
-        laid.lay(word_of(number, MORE[groups - 1]), groups, at, number);
-        let known = [0, 0, number.into(), (at + groups) as u64];
-        seen.read_at_each_distance(reader, &mut laid, known);
-    }
-    seen
+    numbers::library::<PlanNumbers>(laid)
 }
 
 /// The numbers of one to four groups, all of them or one in `step`, shared
@@ -177,9 +27,10 @@ fn read_numbers(reader: &impl Reader, numbers: impl Iterator<Item = u32>) -> See
 fn numbers(reader: &impl Reader, step: u32) -> Seen {
     let threads = thread::available_parallelism().map_or(1, usize::from) as u32;
     let share = |thread| (thread * step..NUMBERS).step_by((threads * step) as usize);
+    let read = move |thread| numbers::read_numbers(reader, share(thread).map(u64::from));
     let mut seen = Seen::default();
     thread::scope(|scope| {
-        let start = |thread| scope.spawn(move || read_numbers(reader, share(thread)));
+        let start = |thread| scope.spawn(move || read(thread));
         let running: Vec<_> = (0..threads).map(start).collect();
         for thread in running {
             seen.add(thread.join().expect("a thread ends"));
@@ -188,95 +39,33 @@ fn numbers(reader: &impl Reader, step: u32) -> Seen {
     seen
 }
 
-/// One, two or three groups of every value: their count, and their bits.
-fn one_to_three_groups() -> impl Iterator<Item = (usize, u32)> {
-    (1..=3).flat_map(|count| (0..1 << (7 * count)).map(move |low| (count, low)))
-}
-
 /// Bytes that end after one, two or three groups that another follows, at
 /// offsets 0 to 5: all such groups, or one in `step`.
 fn cut_numbers(reader: &impl Reader, step: usize) -> Seen {
-    let (mut seen, mut laid) = (Seen::default(), Laid::new());
-    for (count, low) in one_to_three_groups().step_by(step) {
-        for at in 0..6 {
-            laid.lay(word_of(low, MORE[count]), count, at, low + at as u32);
-            seen.read(reader, &laid, Some([1, at as u64, 0, 0]));
-        }
-    }
-    seen
+    let all = numbers::one_to_three_groups().step_by(step);
+    numbers::refuse_cut_groups(reader, all.map(|(count, low)| Groups::cut(count, low)))
 }
 
 /// A last group of zero after one, two or three others, at each distance: all
 /// such others, or one in `step`.
 fn numbers_not_shortest(reader: &impl Reader, step: usize) -> Seen {
-    let (mut seen, mut laid) = (Seen::default(), Laid::new());
-    for (count, low) in one_to_three_groups().step_by(step) {
-        let at = low as usize % 5;
-        laid.lay(word_of(low, MORE[count]), count + 1, at, low);
-        seen.read_at_each_distance(reader, &mut laid, [1, at as u64, 0, 0]);
-    }
-    seen
+    let all = numbers::one_to_three_groups().step_by(step);
+    numbers::refuse_groups(reader, all.map(|(count, low)| Groups::ended(count, low)))
 }
 
 /// A fourth group that another follows, at each distance: each of the 128 such
 /// groups after one in `step` of the three before it.
 fn numbers_of_five_groups(reader: &impl Reader, step: usize) -> Seen {
-    let (mut seen, mut laid) = (Seen::default(), Laid::new());
     let low = (0..1 << 21).step_by(step);
-    for number in low.flat_map(|low| (0..128).map(move |fourth| low | fourth << 21)) {
-        let at = number as usize % 5;
-        laid.lay(word_of(number, MORE[4]), 4, at, number);
-        seen.read_at_each_distance(reader, &mut laid, [1, at as u64, 0, 0]);
-    }
-    seen
+    let all = low.flat_map(|low| (0..128).map(move |fourth| low | fourth << 21));
+    numbers::refuse_groups(reader, all.map(|bits| Groups::cut(4, bits)))
 }
 
 /// A fourth group that another follows, with any groups before it: all, or one
 /// in `step`, each at one distance.
 fn words_without_end(reader: &impl Reader, step: usize) -> Seen {
-    let (mut seen, mut laid) = (Seen::default(), Laid::new());
-    for number in (0..NUMBERS).step_by(step) {
-        let at = number as usize % 5;
-        laid.lay(word_of(number, MORE[4]), 4, at, number);
-        laid.length += number as usize / 5 % DISTANCES;
-        seen.read(reader, &laid, Some([1, at as u64, 0, 0]));
-    }
-    seen
-}
-
-/// Slices of 0 to 3 bytes, all or one in `step`, at offsets 0 to 4, which are
-/// past the end too.
-fn short_slices(reader: &impl Reader, step: usize) -> Seen {
-    let (mut seen, mut laid) = (Seen::default(), Laid::new());
-    let all = (0..=3).flat_map(|count| (0..1 << (8 * count)).map(move |word| (count, word)));
-    for (count, word) in all.step_by(step) {
-        laid.lay(word, count, 0, word);
-        for at in 0..=4 {
-            laid.at = at;
-            let known = (at >= count).then_some([1, at as u64, 0, 0]);
-            seen.read(reader, &laid, known);
-        }
-    }
-    seen
-}
-
-/// Offsets at and past the end of 0 to 8 bytes: near it, at the greatest
-/// offsets, and where 32 bits would lead back to the bytes.
-fn offsets_past_the_end(reader: &impl Reader) -> Seen {
-    let (mut seen, mut laid) = (Seen::default(), Laid::new());
-    let lengths = (0..=8).flat_map(|length| (0..11).map(move |salt| (length, salt)));
-    for (length, salt) in lengths {
-        laid.lay(BEHIND[salt as usize] as u32, 4, 0, salt);
-        laid.length = length;
-        let near = (0..=4).map(|more| length + more);
-        let far = (0..=8).map(|less| usize::MAX - less);
-        let wide = (0..=8).flat_map(|low| [1 << 32, 1 << 63].map(|high| high + low));
-        for at in near.chain(far).chain(wide) {
-            laid.at = at;
-            seen.read(reader, &laid, Some([1, at as u64, 0, 0]));
-        }
-    }
-    seen
+    let all = (0..NUMBERS).step_by(step).map(u64::from);
+    numbers::refuse_groups_once(reader, all.map(|bits| Groups::cut(4, bits)))
 }
 
 /// All 268,435,456 numbers, each at all six distances.
@@ -320,42 +109,24 @@ fn every_word_without_end_is_refused() {
 #[test]
 fn every_short_slice_is_read_alike() {
     let reads = (1 + 256 + 65_536 + 16_777_216) * 5;
-    short_slices(&library, 1).must_be_right("every_short_slice_is_read_alike", reads);
+    let seen: Seen = numbers::short_slices(&library, 1);
+    seen.must_be_right("every_short_slice_is_read_alike", reads);
 }
 
 #[test]
 fn offsets_past_the_end_are_refused() {
+    let seen: Seen = numbers::offsets_past_the_end(&library);
     let reads = 9 * 11 * (5 + 9 + 18);
-    offsets_past_the_end(&library).must_be_right("offsets_past_the_end_are_refused", reads);
+    seen.must_be_right("offsets_past_the_end_are_refused", reads);
 }
 
-/// Reads at each offset of 1 to 8 bytes, and just past them, with memory that
-/// ends behind them and before them; gives the count of reads. Each byte is
-/// one of two, so that numbers of every length stand everywhere.
-fn read_between_fences(reader: impl Fn(&[u8], usize) -> Figures) -> u64 {
-    let mut fenced = Fenced::new();
-    let mut reads = 0;
-    let slices = (1..=8).flat_map(|length| (0..1u32 << length).map(move |more| (length, more)));
-    for (length, more) in slices {
-        let bytes: Vec<u8> = (0..length)
-            .map(|index| (more >> index & 1) as u8 * 128 + 1)
-            .collect();
-        for at in 0..length + 5 {
-            let right = Reference.read_plan_number(&bytes, at);
-            let at_the_end = reader(fenced.at_the_end(&bytes), at);
-            let at_the_front = reader(fenced.at_the_front(&bytes), at);
-            assert_eq!([at_the_end, at_the_front], [right; 2], "{bytes:?} at {at}");
-            reads += 2;
-        }
-    }
-    reads
-}
-
+/// 1 to 8 bytes, of groups 0, 1 or 127, at both ends of the memory.
 #[test]
 fn no_byte_beyond_the_slice_is_touched() {
-    let reads = read_between_fences(|bytes, at| Library.read_plan_number(bytes, at));
+    let library = |bytes: &[u8], at| Library.read_plan_number(bytes, at);
+    let reads = numbers::read_between_fences::<PlanNumbers>(library);
     println!("no_byte_beyond_the_slice_is_touched: {reads} reads");
-    let of_length = |length: u64| (1 << length) * (length + 5) * 2;
+    let of_length = |length: u64| (1 << length) * 3 * (length + 5) * 2;
     assert_eq!(reads, (1..=8).map(of_length).sum());
 }
 
@@ -379,46 +150,9 @@ fn no_byte_beyond_a_plan_is_touched() {
     }
 }
 
-/// The variable that asks for a reader which touches bytes beyond its slice.
-const BEYOND: &str = "SECONDCOOP_READ_BEYOND";
-
-/// Touches four bytes from the offset on, though fewer may be left, or the
-/// last four of the slice, though it may be shorter.
-fn touch_beyond(which: &str, bytes: &[u8], at: usize) {
-    let first = match which {
-        "behind" if at < bytes.len() => at as isize,
-        "before" => bytes.len() as isize - 4,
-        _ => return,
-    };
-    let word = bytes.as_ptr().wrapping_offset(first).cast::<[u8; 4]>();
-    // SAFETY: there is none, and the process is there to be ended for it.
-    unsafe { word.read_volatile() };
-}
-
-/// A process whose reader touches bytes beyond its slice is ended for it, and
-/// one whose reader does not is not.
 #[test]
 fn touching_a_byte_beyond_is_told() {
-    if let Ok(which) = env::var(BEYOND) {
-        read_between_fences(|bytes, at| {
-            touch_beyond(&which, bytes, at);
-            Reference.read_plan_number(bytes, at)
-        });
-        return;
-    }
-    const FAULT_OF_MEMORY: i32 = 11;
-    for (which, signal) in [
-        ("nothing", None),
-        ("behind", Some(FAULT_OF_MEMORY)),
-        ("before", Some(FAULT_OF_MEMORY)),
-    ] {
-        let program = env::current_exe().expect("this program has a name");
-        let mut program = Command::new(program);
-        program.args(["--exact", "touching_a_byte_beyond_is_told"]);
-        let output = program.env(BEYOND, which).output().expect("it runs");
-        assert_eq!(output.status.signal(), signal, "{which}");
-        assert_eq!(output.status.success(), signal.is_none(), "{which}");
-    }
+    numbers::touching_a_byte_beyond_is_told::<PlanNumbers>("touching_a_byte_beyond_is_told");
 }
 
 /// What is wrong with a reader.
@@ -617,17 +351,15 @@ impl Fault {
 /// Which checks, each at a fraction of its length, tell a fault.
 fn told(fault: Fault) -> Vec<&'static str> {
     let reader = |laid: &Laid| fault.read(laid);
-    let seen = [
+    numbers::wrong::<PlanNumbers>([
         ("numbers", numbers(&reader, 10_007)),
         ("cut", cut_numbers(&reader, 101)),
         ("not shortest", numbers_not_shortest(&reader, 101)),
         ("five groups", numbers_of_five_groups(&reader, 10_007)),
         ("without end", words_without_end(&reader, 10_007)),
-        ("short", short_slices(&reader, 101)),
-        ("past", offsets_past_the_end(&reader)),
-    ];
-    let wrong = seen.into_iter().filter(|(_, seen)| seen.wrong.is_some());
-    wrong.map(|(name, _)| name).collect()
+        ("short", numbers::short_slices(&reader, 101)),
+        ("past", numbers::offsets_past_the_end(&reader)),
+    ])
 }
 
 #[test]
