@@ -13,19 +13,18 @@ use Rattle.graph.specs.declared.Edge.{Edge}
 use Rattle.graph.specs.declared.Cursor.{Cursor}
 use Rattle.graph.specs.declared.EdgeRead.the-variants.{Next}
 use Rattle.graph.specs.declared.EdgeRead.the-variants as edgeRead
-use Rattle.graph.specs.declared.PlanRead.the-variants.{Sizes}
-use Rattle.graph.specs.Plan.{Decoded, accepted, refused, firstAt, nextEdge, before, onward, edgesFrom, sizes}
+use Rattle.graph.specs.Plan.{Decoded, accepted, refused, firstAt, nextEdge, before, onward, edgesFrom}
 use Rattle.graph.specs.Lists.{edgesIn}
+use Rattle.graph.proofs.Plan.{Accepts, accepts}
 use Rattle.graph.proofs.Tests.{and-false}
-use Rattle.plan_check.proofs.Checked.{sized-by, checked-sizes}
 use Rattle.search.specs.Call.{row, edgesRow}
-use Rattle.admission.specs.declared.consistency.EdgesRead.{EdgesRead}
-use Rattle.admission.specs.declared.consistency.EdgesRead.the-variants.{Whole, Refused}
+use Rattle.admission.specs.declared.edges.EdgesRead.{EdgesRead}
+use Rattle.admission.specs.declared.edges.EdgesRead.the-variants.{Whole, Refused}
 use Rattle.admission.specs.Broken.{breaks, firstBroken, brokenAfter, edgesRead}
 
 -- ---- edge after edge
 
--- what is found, told after i edges: b of them breaks the rule first, or none did
+-- what is found, told after i edges: edge b is the first of them that breaks the rule, if b < i
 unfoldable pub from : List ℕ → ℕ → ℕ → Decoded → EdgesRead
 from h b i (accepted v es) = Whole (cond (ltb b i) b (firstBroken h i es))
 from h b i (refused n p) = Refused n p
@@ -61,14 +60,14 @@ module _ (h : List ℕ) (m i : ℕ) (more : i < m) (e : Edge) where
   from-kept (refused n p) = refl
 
 -- i of m edges were read, and the cursor stands before the rest; b is the first of them that breaks the rule, or m
-pub record Passed (v m : ℕ) (s : List ℕ) (at : ℕ) (h : List ℕ) (i : ℕ) (c : Cursor) (b : ℕ) : Type 0 where
+pub record ReadSoFar (v m : ℕ) (s : List ℕ) (at : ℕ) (h : List ℕ) (i : ℕ) (c : Cursor) (b : ℕ) : Type 0 where
   pub within : i ≤ m
   pub known : (b < i) ⊎ (b ≡ m)
   pub told : edgesRead h (edgesFrom v m s (firstAt at)) ≡ from h b i (edgesFrom v (m - i) s c)
 
 module _ (v m : ℕ) (s : List ℕ) (at : ℕ) (h : List ℕ) where
-  pub passed-none : (c : Cursor) → c ≡ firstAt at → Passed v m s at h 0 c m
-  passed-none c q =
+  pub so-far-none : (c : Cursor) → c ≡ firstAt at → ReadSoFar v m s at h 0 c m
+  so-far-none c q =
       let z : m ≡ m - 0 = omega arith in
       rw q
       record {
@@ -77,7 +76,7 @@ module _ (v m : ℕ) (s : List ℕ) (at : ℕ) (h : List ℕ) where
         told = ap (λ (x : ℕ). edgesRead h (edgesFrom v x s (firstAt at))) z ∙ from-none h m (edgesFrom v (m - 0) s (firstAt at));
       }
 
-  module _ (i : ℕ) (c : Cursor) (b : ℕ) (more : i < m) (k : Passed v m s at h i c b) where
+  module _ (i : ℕ) (c : Cursor) (b : ℕ) (more : i < m) (k : ReadSoFar v m s at h i c b) where
     told-one : edgesRead h (edgesFrom v m s (firstAt at)) ≡ from h b i (onward (edgesFrom v (m - suc i) s) (nextEdge v s c))
     unfolding edgesFrom
     told-one = let z : m - i ≡ suc (m - suc i) = omega (arith, more) in k .told ∙ ap (λ (x : ℕ). from h b i (edgesFrom v x s c)) z
@@ -91,10 +90,10 @@ module _ (v m : ℕ) (s : List ℕ) (at : ℕ) (h : List ℕ) where
     known-by false (inl l) = inl (omega arith)
     known-by false (inr q) = inr q
 
-    pub passed-next :
-        (e : Edge) (c′ : Cursor) (b′ : ℕ) → nextEdge v s c ≡ Next e c′ → b′ ≡ brokenAfter h b i e → Passed v m s at h (i + 1) c′ b′
+    pub so-far-next :
+        (e : Edge) (c′ : Cursor) (b′ : ℕ) → nextEdge v s c ≡ Next e c′ → b′ ≡ brokenAfter h b i e → ReadSoFar v m s at h (i + 1) c′ b′
     unfolding onward brokenAfter
-    passed-next e c′ b′ q r =
+    so-far-next e c′ b′ q r =
         rw (add-one i, r)
         record {
           within = omega (arith, more);
@@ -102,26 +101,26 @@ module _ (v m : ℕ) (s : List ℕ) (at : ℕ) (h : List ℕ) where
           told = told-one ∙ ap (λ (x : _). from h b i (onward (edgesFrom v (m - suc i) s) x)) q ∙ from-next e (edgesFrom v (m - suc i) s c′) (k .known);
         }
 
-    pub passed-refused : (n p : ℕ) → nextEdge v s c ≡ edgeRead.Refused n p → Refused n p ≡ edgesRead h (edgesFrom v m s (firstAt at))
+    pub so-far-refused : (n p : ℕ) → nextEdge v s c ≡ edgeRead.Refused n p → Refused n p ≡ edgesRead h (edgesFrom v m s (firstAt at))
     unfolding onward from
-    passed-refused n p q = sym (told-one ∙ rw q)
+    so-far-refused n p q = sym (told-one ∙ rw q)
 
   -- all were read
-  module _ (i : ℕ) (c : Cursor) (b : ℕ) (all : m ≤ i) (k : Passed v m s at h i c b) where
+  module _ (i : ℕ) (c : Cursor) (b : ℕ) (all : m ≤ i) (k : ReadSoFar v m s at h i c b) where
     told-none : edgesRead h (edgesFrom v m s (firstAt at)) ≡ from h b i (edgesFrom v 0 s c)
     told-none = let z : m - i ≡ 0 = omega arith in k .told ∙ ap (λ (x : ℕ). from h b i (edgesFrom v x s c)) z
 
-    pub passed-over : c .at < length s → Refused 7 (c .at) ≡ edgesRead h (edgesFrom v m s (firstAt at))
+    pub so-far-over : c .at < length s → Refused 7 (c .at) ≡ edgesRead h (edgesFrom v m s (firstAt at))
     unfolding edgesFrom from
-    passed-over l = sym (told-none ∙ simp (lt-ltb (c .at) (length s) l))
+    so-far-over l = sym (told-none ∙ simp (lt-ltb (c .at) (length s) l))
 
     is-first : (b < i) ⊎ (b ≡ m) → cond (ltb b i) b i ≡ b
     is-first (inl l) = rw (lt-ltb b i l)
     is-first (inr q) = let z : i ≡ b = omega (arith, k .within) in rw (le-ltb b i (omega arith)) z
 
-    pub passed-all : length s ≤ c .at → Whole b ≡ edgesRead h (edgesFrom v m s (firstAt at))
+    pub so-far-all : length s ≤ c .at → Whole b ≡ edgesRead h (edgesFrom v m s (firstAt at))
     unfolding edgesFrom from firstBroken
-    passed-all l = sym (told-none ∙ simp (le-ltb (c .at) (length s) l) (ap Whole (is-first (k .known))))
+    so-far-all l = sym (told-none ∙ simp (le-ltb (c .at) (length s) l) (ap Whole (is-first (k .known))))
 
 -- ---- what was found
 
@@ -145,24 +144,15 @@ pub record WholeRead (v m : ℕ) (h : List ℕ) (b : ℕ) (d : Decoded) : Type 0
   pub count : length (edgesIn d) ≡ m
   pub row-is : edgesRow h 0 (edgesIn d) ≡ row (ltb b m) 13 b
 
-record Found (h : List ℕ) (b : ℕ) (d : Decoded) : Type 0 where
-  size : ℕ
-  count : ℕ
-  sized : sizes d ≡ Sizes size count
-  first : firstBroken h 0 (edgesIn d) ≡ b
-
-found : (h : List ℕ) (b : ℕ) (d : Decoded) → edgesRead h d ≡ Whole b → Found h b d
-unfolding edgesRead sizes edgesIn
-found h b (accepted w es) q = record { size = w; count = length es; sized = refl; first = cc }
-found h b (refused n p) q = absurd (let z : _≡_ {A = ℕ} 0 1 = cc in omega arith)
-
 pub whole-read :
-    (v m : ℕ) (s : List ℕ) (c : Cursor) (h : List ℕ) (b : ℕ) → edgesRead h (edgesFrom v m s c) ≡ Whole b → WholeRead v m h b (edgesFrom v m s c)
-whole-read v m s c h b q =
-    let f : Found h b (edgesFrom v m s c) = found h b (edgesFrom v m s c) q in
-    let d = sized-by (edgesFrom v m s c) v m (checked-sizes v m s c (f .size) (f .count) (f .sized)) in
-    let n : 0 + length (edgesIn (edgesFrom v m s c)) ≡ m = omega (arith, d .1) in
-    record { accepts = d .0; count = d .1; row-is = row-broken h 0 (edgesIn (edgesFrom v m s c)) ∙ rw (n, f .first) }
+    (v m : ℕ) (s : List ℕ) (c : Cursor) (h : List ℕ) (b : ℕ) (d : Decoded) → edgesFrom v m s c ≡ d → edgesRead h d ≡ Whole b → WholeRead v m h b d
+unfolding edgesRead edgesIn
+whole-read v m s c h b (accepted w es) e q =
+    let a : Accepts v m s c w es = accepts v s m c w es e in
+    let n : 0 + length es ≡ m = omega (arith, a .count) in
+    let f : firstBroken h 0 es ≡ b = cc in
+    record { accepts = rw (a .same); count = a .count; row-is = row-broken h 0 es ∙ rw (n, f) }
+whole-read v m s c h b (refused n p) e q = absurd (let z : _≡_ {A = ℕ} 0 1 = cc in omega arith)
 
 pub refused-by : (h : List ℕ) (d : Decoded) (n p : ℕ) → edgesRead h d ≡ Refused n p → d ≡ refused n p
 unfolding edgesRead

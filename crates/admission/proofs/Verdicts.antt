@@ -1,6 +1,6 @@
 -- Laws for the code that decides a call: its rows downwards.
 use Prim.Native.Nat.{ℕ, _+_, _*_, _<_}
-use mathlib.Core.Path.{_≡_, sym, ap, _∙_}
+use mathlib.Core.Path.{_≡_, refl, sym, ap, _∙_}
 use mathlib.Core.Bool.{Bool, true, false, not, _&&_, _||_}
 use mathlib.Core.List.{List, [], _∷_}
 use lib.ListN.{length, getD}
@@ -17,14 +17,14 @@ use Rattle.admission.specs.declared.Query.{Query}
 use Rattle.admission.specs.declared.Lengths.{Lengths}
 use Rattle.admission.specs.declared.Verdict.{Verdict}
 use Rattle.admission.specs.declared.Verdict.the-variants.{Refused}
-use Rattle.admission.specs.declared.consistency.EdgesRead.the-variants.{Whole}
-use Rattle.admission.specs.declared.consistency.EdgesRead.the-variants as edgesRefused
+use Rattle.admission.specs.declared.edges.EdgesRead.the-variants.{Whole}
+use Rattle.admission.specs.declared.edges.EdgesRead.the-variants as edgesFound
 use Rattle.admission.specs.Broken.{edgesRead}
 use Rattle.admission.specs.Verdict.{verdict}
 use Rattle.admission.specs.Admission.{firstEdgeAt, verdictOf, Decided}
 use Rattle.admission.proofs.AnchorRule.{WholeRead, whole-read, refused-by}
 
--- ---- the rows of a call whose plan was checked
+-- ---- the rows of a call whose plan was read
 
 -- the goal is a vertex, and the anchor heuristic has a number for each vertex
 pub ends-hold : (start goal barred v : ℕ) (b : Bool) → b ≡ (not (ltb start v && ltb goal v) || ltb 255 barred) → b ≡ false → goal < v
@@ -50,7 +50,7 @@ module _
   Is r = Decided s q anchor sheets schedule lengths r
 
   abbrev read : WholeRead v m anchor b (edgesFrom v m s (firstAt at))
-  read = whole-read v m s (firstAt at) anchor b g
+  read = whole-read v m s (firstAt at) anchor b (edgesFrom v m s (firstAt at)) refl g
 
   accepts : decode s ≡ accepted v edges
   unfolding decode afterHeader
@@ -135,6 +135,6 @@ module _ (s : List ℕ) (q : Query) (anchor sheets schedule : List ℕ) (lengths
   unfolding decode afterHeader
   header-refused e = plan-refused (rw e)
 
-  pub edges-refused : (v m at : ℕ) → header s ≡ Counts v m at → edgesRead anchor (edgesFrom v m s (firstAt at)) ≡ edgesRefused.Refused n p → Refuses
+  pub edges-refused : (v m at : ℕ) → header s ≡ Counts v m at → edgesRead anchor (edgesFrom v m s (firstAt at)) ≡ edgesFound.Refused n p → Refuses
   unfolding decode afterHeader
   edges-refused v m at e f = plan-refused (rw e (refused-by anchor (edgesFrom v m s (firstAt at)) n p f))

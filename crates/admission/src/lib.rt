@@ -1,9 +1,9 @@
 // Whether a planner call is admitted: its refusals, decided before anything is written.
-pub mod consistency;
+pub mod edges;
 mod rows;
 
 ghost use Rattle.admission.specs.Admission.{Decided};
-use consistency::EdgesRead;
+use edges::EdgesRead;
 use graph::Header;
 
 // What a call asks besides slices: the ends, the barred classes, the number of inadmissible heuristics (guides),
@@ -45,7 +45,7 @@ pub fn decide(
     match plan_check::header(bytes) {
         Header::Refused(n, p) => Verdict::Refused(n, p),
         Header::Counts(vertices, edges, at) => {
-            match consistency::read_edges(bytes, vertices, edges, at, anchor) {
+            match edges::read_edges(bytes, vertices, edges, at, anchor) {
                 EdgesRead::Refused(n, p) => Verdict::Refused(n, p),
                 EdgesRead::Whole(broken) => rows::call_verdict(
                     bytes,

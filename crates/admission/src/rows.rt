@@ -1,4 +1,4 @@
-// Rows 8, 9, 11 and 12 of a call, and the rows 8 to 13 downwards.
+// Rows 8, 9 and 11 to 13 of a call, and all of 8 to 13 downwards.
 ghost use Prim.Native.Nat.{_+_, _*_, _<_};
 ghost use mathlib.Core.Path.{_≡_};
 ghost use mathlib.Core.Bool.{not, _&&_, _||_};
@@ -8,7 +8,7 @@ ghost use lib.Dec.{ltb, eqb};
 ghost use Rattle.graph.specs.declared.Header.the-variants.{Counts};
 ghost use Rattle.graph.specs.Plan.{header, firstAt, edgesFrom};
 ghost use Rattle.search.specs.Call.{row, first};
-ghost use Rattle.admission.specs.declared.consistency.EdgesRead.the-variants.{Whole};
+ghost use Rattle.admission.specs.declared.edges.EdgesRead.the-variants.{Whole};
 ghost use Rattle.admission.specs.Broken.{edgesRead};
 ghost use Rattle.admission.specs.Verdict.{verdict};
 ghost use Rattle.admission.specs.Admission.{Decided};

@@ -22,7 +22,7 @@ use Rattle.schedule.specs.declared.default_schedule.DefaultSchedule.{DefaultSch
 use Rattle.schedule.specs.DefaultSchedule.{pairsIn, initial}
 use Rattle.schedule.proofs.DefaultSchedule.{loads, standard-fits}
 use Rattle.job_reader.specs.ButEdges.{readButEdges}
-use Rattle.job_reader.proofs.ButEdges.{Asks, told}
+use Rattle.job_reader.proofs.ButEdges.{LeftToCall, read-as}
 use Rattle.bench_text.specs.Stored.{Stored}
 
 -- ---- numbers stored at an array's front
@@ -57,11 +57,11 @@ standard-prefix d e =
 -- ---- a job that was read but for its plan's edges
 
 module _ (s : List ℕ) (f : Front) (v : ℕ) (h : readButEdges s ≡ Accepted f v) where
-  abbrev asks : Asks s f v (jobRead s)
-  asks = told s .accepted f v h
+  abbrev left : LeftToCall s f v (jobRead s)
+  left = read-as s .accepted f v h
 
-  pub parts : Parts s f v (asks .edges)
-  parts = asks .parts
+  pub parts : Parts s f v (left .edges)
+  parts = left .parts
 
   pub factors-few : 2 * f .«round_count» ≤ 32
   factors-few = omega (arith, parts .fits .rounds)

@@ -107,7 +107,7 @@ pub record Parts (s : List ℕ) (f : Front) (v m : ℕ) : Type 0 where
   pub few : m ≤ maxJobEdges
   pub tables : length (tablesOf s f v) ≡ tableCount f v
 
--- so does its plan have them
+-- and its plan passes, with V and M
 pub record Ready (s : List ℕ) (f : Front) (v : ℕ) : Type 0 where
   pub edges : ℕ
   pub sizes : sizes (decode (planOf s f)) ≡ checked.Sizes v edges

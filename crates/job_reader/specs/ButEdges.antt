@@ -22,17 +22,21 @@ unfoldable pub edgesFirst : Decoded → JobRead → JobRead
 edgesFirst (accepted v es) r = r
 edgesFirst (refused n p) r = Refused n p
 
+-- what fails after the edges; a job that passes there is accepted, its edges unseen
 unfoldable pub orEdges : Decoded → JobRead → JobRead
 orEdges d (Accepted f v) = Accepted f v
 orEdges d (Refused n p) = edgesFirst d (Refused n p)
 
-unfoldable pub afterHeader : List ℕ → Front → List ℕ → Header → JobRead
-afterHeader s f plan (Counts v m at) = orEdges (edgesFrom v m plan (firstAt at)) (afterSizes s f v m)
-afterHeader s f plan (headerRead.Refused n p) = Refused n p
+-- by V and M of the plan
+unfoldable pub afterCounts : List ℕ → Front → List ℕ → Header → JobRead
+afterCounts s f plan (Counts v m at) = orEdges (edgesFrom v m plan (firstAt at)) (afterSizes s f v m)
+afterCounts s f plan (headerRead.Refused n p) = Refused n p
 
+-- by the front
 unfoldable pub butEdges : List ℕ → FrontRead → JobRead
 butEdges s frontRead.Refused = Refused 14 0
-butEdges s (Whole f) = afterHeader s f (planOf s f) (header (planOf s f))
+butEdges s (Whole f) = afterCounts s f (planOf s f) (header (planOf s f))
 
+-- the whole job
 unfoldable pub readButEdges : List ℕ → JobRead
 readButEdges s = cond (ltb maxJobBytes (length s)) (Refused 14 0) (butEdges s (front s))

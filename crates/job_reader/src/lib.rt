@@ -7,9 +7,9 @@ pub mod storing;
 ghost use mathlib.Core.Path.{_≡_};
 ghost use Rattle.graph.specs.Plan.{firstAt, edgesFrom, header};
 ghost use Rattle.job.specs.Reading.{afterSizes};
-ghost use Rattle.job_reader.specs.ButEdges.{edgesFirst, afterHeader, readButEdges};
-use admission::consistency;
-use admission::consistency::EdgesRead;
+ghost use Rattle.job_reader.specs.ButEdges.{edgesFirst, afterCounts, readButEdges};
+use admission::edges;
+use admission::edges::EdgesRead;
 use graph::Header;
 use job::Front;
 use job::FrontRead;
@@ -45,29 +45,30 @@ fn after_sizes(job: &[u8], front: Front, vertices: u32, edges: u32) -> JobRead
     }
 }
 
-// A job that fails after its plan: the plan's edges come first. They are read under any anchor table.
+// A job that fails after its plan: the plan's edges come first. They are read by the call's own pass; its anchor
+// table does not matter here.
 fn edges_first(plan: &[u8], vertices: u32, edges: u32, at: usize, failed: JobRead) -> JobRead
     ensures { λ r. ⌜ r ≡ edgesFirst (edgesFrom vertices edges (now (plan .entry)) (firstAt at)) failed ⌝ }
 {
     let anchor = [0u32; 1];
-    match consistency::read_edges(plan, vertices, edges, at, &anchor) {
+    match edges::read_edges(plan, vertices, edges, at, &anchor) {
         EdgesRead::Whole(_) => failed,
         EdgesRead::Refused(n, p) => JobRead::Refused(n, p),
     }
 }
 
-// The job after its front: its plan's V and M, and its tables.
+// The job after its front: V and M of its plan, and its tables; where these fail, the plan's edges before them.
 fn after_front(job: &[u8], plan: &[u8], front: Front) -> JobRead
-    ensures { λ r. ⌜ r ≡ afterHeader (now (job .entry)) front (now (plan .entry)) (header (now (plan .entry))) ⌝ }
+    ensures { λ r. ⌜ r ≡ afterCounts (now (job .entry)) front (now (plan .entry)) (header (now (plan .entry))) ⌝ }
 {
     match plan_check::header(plan) {
         Header::Refused(n, p) => JobRead::Refused(n, p),
         Header::Counts(vertices, edges, at) => {
             let sized = after_sizes(job, front, vertices, edges);
-            let JobRead::Refused(_, _) = sized else {
-                return sized;
+            let JobRead::Accepted(_, _) = sized else {
+                return edges_first(plan, vertices, edges, at, sized);
             };
-            edges_first(plan, vertices, edges, at, sized)
+            sized
         }
     }
 }

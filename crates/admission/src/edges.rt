@@ -31,7 +31,7 @@ fn breaks(edge: Edge, anchor: &[u32]) -> bool
     through < anchor_at(anchor, edge.tail) as u64
 }
 
-// The first edge that breaks the rule, after edge i was tried.
+// The first edge that breaks the rule up to edge i, where `broken` is the first before it, or M.
 fn first_broken(broken: usize, i: usize, edge: Edge, anchor: &[u32]) -> usize
     ensures { λ r. ⌜ r ≡ rule.brokenAfter (now (anchor .entry)) broken i edge ⌝ }
 {

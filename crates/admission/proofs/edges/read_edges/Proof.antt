@@ -2,12 +2,12 @@
 use Prim.Native.Nat.{_-_}
 use mathlib.Core.Path.{sym, _∙_}
 use borrow.Author.Needs.{needs}
-use Rattle.admission.proofs.AnchorRule.{Passed, passed-none, passed-next, passed-refused, passed-over, passed-all}
-use Rattle.admission.proofs.consistency.read_edges.Statement.{statement}
-use Rattle.admission.proofs.consistency.read_edges.Tie as tie
+use Rattle.admission.proofs.AnchorRule.{ReadSoFar, so-far-none, so-far-next, so-far-refused, so-far-over, so-far-all}
+use Rattle.admission.proofs.edges.read_edges.Statement.{statement}
+use Rattle.admission.proofs.edges.read_edges.Tie as tie
 
 abbrev Inv-loop : tie.InvT-loop
-Inv-loop bytes vertices edges at anchor count cursor₀ broken₀ i₀ cursor broken i = Passed vertices edges bytes at anchor i cursor broken
+Inv-loop bytes vertices edges at anchor count cursor₀ broken₀ i₀ cursor broken i = ReadSoFar vertices edges bytes at anchor i cursor broken
 
 abbrev μ-loop : tie.MeasureT-loop
 μ-loop bytes vertices edges at anchor count cursor₀ broken₀ i₀ cursor broken i = edges - i
@@ -16,7 +16,7 @@ first-requires : tie.Need-first-requires Inv-loop μ-loop
 first-requires c κs = search needs
 
 loop-holds : tie.Need-loop-holds Inv-loop μ-loop
-loop-holds c = passed-none _ _ _ _ _ _ (c .first .ensures)
+loop-holds c = so-far-none _ _ _ _ _ _ (c .first .ensures)
 
 next-edge-requires : tie.Need-next-edge-requires Inv-loop μ-loop
 next-edge-requires c κs = search needs
@@ -33,7 +33,7 @@ enum-known-n c = search needs
 returns : tie.Need-returns Inv-loop μ-loop
 returns c =
     let n = c .before .before .before in
-    passed-refused _ _ _ _ _ _ _ _ (n .before .loop-test .taken) (n .before .before .loop .inv) _ _ (sym (n .next-edge .ensures) ∙ c .before .n .given .1)
+    so-far-refused _ _ _ _ _ _ _ _ (n .before .loop-test .taken) (n .before .before .loop .inv) _ _ (sym (n .next-edge .ensures) ∙ c .before .n .given .1)
 
 add-i : tie.Need-add-i Inv-loop μ-loop
 add-i c = search needs
@@ -44,13 +44,13 @@ loop-less c = search needs
 loop-again : tie.Need-loop-again Inv-loop μ-loop
 loop-again c =
     let n = c .before .before .before .before in
-    passed-next _ _ _ _ _ _ _ _ (n .before .loop-test .taken) (n .before .before .loop .inv) _ _ _ (sym (n .next-edge .ensures) ∙ c .before .before .edge .given .1) (c .first-broken .ensures)
+    so-far-next _ _ _ _ _ _ _ _ (n .before .loop-test .taken) (n .before .before .loop .inv) _ _ _ (sym (n .next-edge .ensures) ∙ c .before .before .edge .given .1) (c .first-broken .ensures)
 
 returns-2 : tie.Need-returns-2 Inv-loop μ-loop
-returns-2 c = passed-over _ _ _ _ _ _ _ _ (c .before .loop-test .left) (c .before .before .loop .inv) (c .if1 .taken)
+returns-2 c = so-far-over _ _ _ _ _ _ _ _ (c .before .loop-test .left) (c .before .before .loop .inv) (c .if1 .taken)
 
 returns-3 : tie.Need-returns-3 Inv-loop μ-loop
-returns-3 c = passed-all _ _ _ _ _ _ _ _ (c .before .loop-test .left) (c .before .before .loop .inv) (c .if1 .left)
+returns-3 c = so-far-all _ _ _ _ _ _ _ _ (c .before .loop-test .left) (c .before .before .loop .inv) (c .if1 .left)
 
 pub read-edges-spec : {M : Type 1} → statement M
 read-edges-spec =

@@ -4,8 +4,8 @@ use borrow.Author.Tests.{lt-ltb, le-ltb}
 use Rattle.graph.proofs.Tests.{not-true, not-false}
 use Rattle.admission.specs.Broken.{brokenAfter}
 use borrow.Author.Needs.{needs}
-use Rattle.admission.proofs.consistency.first_broken.Statement.{statement}
-use Rattle.admission.proofs.consistency.first_broken.Tie as tie
+use Rattle.admission.proofs.edges.first_broken.Statement.{statement}
+use Rattle.admission.proofs.edges.first_broken.Tie as tie
 
 breaks-requires : tie.Need-breaks-requires
 breaks-requires c κs = search needs

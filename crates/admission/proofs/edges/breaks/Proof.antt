@@ -1,8 +1,8 @@
 -- `breaks` meets its contract: the sum is taken in 64 bits.
 use Rattle.admission.specs.Broken.{breaks}
 use borrow.Author.Needs.{needs}
-use Rattle.admission.proofs.consistency.breaks.Statement.{statement}
-use Rattle.admission.proofs.consistency.breaks.Tie as tie
+use Rattle.admission.proofs.edges.breaks.Statement.{statement}
+use Rattle.admission.proofs.edges.breaks.Tie as tie
 
 cast-through : tie.Need-cast-through
 cast-through c = search needs
