@@ -481,7 +481,7 @@ fn tables_of_any_length_are_refused_for_it() {
 
 /// The largest plan: eight edges lead from each vertex to the first eight, and
 /// the table has k at vertex k of these and 20 at all others. Each cost is the
-/// least that keeps the rule there, and of broken edges one less.
+/// least that keeps the rule at such others, and of broken edges one less.
 fn largest(broken: &[usize]) -> Job {
     let edges = 0..MOST_EDGES;
     let cost = |edge: u32| 20 - edge % 8 - u32::from(broken.contains(&(edge as usize)));
@@ -704,13 +704,13 @@ fn texts_of_a_job() -> u64 {
 }
 
 /// A job's text in every combination of those rows, with whole tables and with
-/// each fault of them. `whole` is what it gets by its plan and its size,
-/// before all others; `known` what it gets behind all others.
-fn texts_of(seen: &mut Seen, job: &Job, whole: Option<Answer>, known: Answer) {
-    combined(&TEXT_ROWS, job, known, &mut |job, known| {
-        seen.text(&job.bench_bytes(), whole.unwrap_or(known));
+/// each fault of them. `before` is what it gets by its plan and its size, before
+/// all others; `behind` what it gets behind all others.
+fn texts_of(seen: &mut Seen, job: &Job, before: Option<Answer>, behind: Answer) {
+    combined(&TEXT_ROWS, job, behind, &mut |job, known| {
+        seen.text(&job.bench_bytes(), before.unwrap_or(known));
         for fault in TABLE_FAULTS {
-            seen.text(&fault(job), whole.unwrap_or(refused(14, 0)));
+            seen.text(&fault(job), before.unwrap_or(refused(14, 0)));
         }
     });
 }
@@ -739,7 +739,7 @@ fn tables_count_before_the_call_in_texts() {
 fn texts_by_size(seen: &mut Seen) {
     for (vertices, edges) in [(257, 10), (65, 2_049), (300, 2_049), (4_096, 10)] {
         let job = job_of(&rising(vertices, edges, &[3, 8]));
-        texts_of(seen, &job, Some(refused(14, 0)), PASSES);
+        texts_of(seen, &job, Some(refused(14, 0)), refused(13, 3));
     }
 }
 
@@ -758,7 +758,8 @@ fn texts_by_plan(seen: &mut Seen) {
     });
     for (list, plan) in small_ones.into_iter().chain(others) {
         let job = job_of(&plan);
-        // Each fault with a part of the combinations, in turn.
+        // All combinations, each with whole tables and with one fault of them,
+        // in turn.
         for (index, damaged) in list.iter().enumerate() {
             let mut turn = index;
             let job = on_bytes(&job, &damaged.bytes);
@@ -907,8 +908,8 @@ fn plan_of_any_size(random: &mut Random) -> Plan {
     }
 }
 
-/// A bench job's bytes with a fault of its tables or without one.
-fn damage_tables(random: &mut Random, bytes: &mut Vec<u8>) -> bool {
+/// Damages the tables of a bench job's bytes, or not, and tells whether.
+fn damage_table_bytes(random: &mut Random, bytes: &mut Vec<u8>) -> bool {
     let last = bytes.len() - 1;
     match random.below(12) {
         0 => drop(bytes.pop()),
@@ -942,7 +943,7 @@ fn seeded_texts(seen: &mut Seen) {
         let mut bytes = job.bench_bytes();
         let vertices = plan.vertices as usize;
         let beyond = vertices > MOST_BENCH_VERTICES || plan.edges() > MOST_BENCH_EDGES;
-        let no_job = damage_tables(&mut random, &mut bytes) || beyond;
+        let no_job = damage_table_bytes(&mut random, &mut bytes) || beyond;
         let of_the_tables = no_job.then_some(refused(14, 0));
         if let Some(known) = of_the_plan.or(of_the_tables).or(of_the_call) {
             seen.text(&bytes, known);
@@ -1098,7 +1099,7 @@ enum Slip {
     BeforeItsClass,
     /// What is missing in a short anchor table is 0, and the rule counts.
     MissingIsZero,
-    /// A long anchor table passes where its first numbers break the rule.
+    /// A long anchor table passes row 9 where its first numbers break the rule.
     LongerPasses,
     /// The rule is kept where what is left of the sum in 32 bits keeps it, and
     /// there alone.

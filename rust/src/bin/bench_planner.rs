@@ -318,10 +318,10 @@ fn compare_loads() {
 
 /// Makes one call that ends before its first turn and one check, on the floor
 /// of so many vertices.
-fn call_once(vertices: &str, costs: Costs) {
+fn call_once(places: &str, costs: Costs) {
     let size = FLOORS
         .into_iter()
-        .find(|(width, height)| (width * height).to_string() == vertices)
+        .find(|(width, height)| (width * height).to_string() == places)
         .expect("64, 256, 1024 or 4096 places");
     let (plan, job) = load_of(size, costs);
     assert_eq!(Lent::of(&job).call(&Library, &job), LOADED);
@@ -362,7 +362,8 @@ fn main() {
         ["once", "text", "halved"] => text_once(Sheets::Halved),
         ["once", places] => call_once(places, Costs::Ordinary),
         ["once", places, "mixed"] => call_once(places, MIXED),
-        _ => compare_all(),
+        [] => compare_all(),
+        _ => panic!("no argument, loads, once PLACES [mixed], or once text [halved]"),
     }
 }
 
