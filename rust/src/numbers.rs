@@ -266,19 +266,30 @@ pub fn one_to_three_groups() -> impl Iterator<Item = (usize, u64)> {
     (1..=3).flat_map(|count| (0..1 << (7 * count)).map(move |low| (count, low)))
 }
 
+/// Reads each of some numbers or groups.
+#[inline(always)]
+fn each<N: Numbers, T>(
+    all: impl Iterator<Item = T>,
+    mut read: impl FnMut(&mut Seen<N>, &mut Laid, T),
+) -> Seen<N> {
+    let (mut seen, mut laid) = (Seen::default(), Laid::new());
+    for one in all {
+        read(&mut seen, &mut laid, one);
+    }
+    seen
+}
+
 /// Each of some numbers in its shortest form, at each distance.
 pub fn read_numbers<N: Numbers>(
     reader: &impl Reader,
     numbers: impl Iterator<Item = u64>,
 ) -> Seen<N> {
-    let (mut seen, mut laid) = (Seen::default(), Laid::new());
-    for number in numbers {
+    each(numbers, |seen, laid, number| {
         let (groups, at) = (Groups::of(number), number as usize % 5);
         laid.lay_groups::<N>(groups, at, 0);
         let known = [0, 0, number, (at + groups.count) as u64];
-        seen.read_at_each_distance(reader, &mut laid, known);
-    }
-    seen
+        seen.read_at_each_distance(reader, laid, known);
+    })
 }
 
 /// Groups that are not a number, at each distance.
@@ -286,13 +297,11 @@ pub fn refuse_groups<N: Numbers>(
     reader: &impl Reader,
     all: impl Iterator<Item = Groups>,
 ) -> Seen<N> {
-    let (mut seen, mut laid) = (Seen::default(), Laid::new());
-    for groups in all {
+    each(all, |seen, laid, groups| {
         let at = groups.bits as usize % 5;
         laid.lay_groups::<N>(groups, at, 0);
-        seen.read_at_each_distance(reader, &mut laid, refused(at));
-    }
-    seen
+        seen.read_at_each_distance(reader, laid, refused(at));
+    })
 }
 
 /// Groups that are not a number, each at one distance.
@@ -300,14 +309,12 @@ pub fn refuse_groups_once<N: Numbers>(
     reader: &impl Reader,
     all: impl Iterator<Item = Groups>,
 ) -> Seen<N> {
-    let (mut seen, mut laid) = (Seen::default(), Laid::new());
-    for groups in all {
+    each(all, |seen, laid, groups| {
         let at = groups.bits as usize % 5;
         laid.lay_groups::<N>(groups, at, 0);
         laid.length += groups.bits as usize / 5 % N::DISTANCES;
-        seen.read(reader, &laid, refused(at));
-    }
-    seen
+        seen.read(reader, laid, refused(at));
+    })
 }
 
 /// Bytes that end with groups that are not a number, at offsets 0 to 5.
@@ -315,14 +322,12 @@ pub fn refuse_cut_groups<N: Numbers>(
     reader: &impl Reader,
     all: impl Iterator<Item = Groups>,
 ) -> Seen<N> {
-    let (mut seen, mut laid) = (Seen::default(), Laid::new());
-    for groups in all {
+    each(all, |seen, laid, groups| {
         for at in 0..6 {
             laid.lay_groups::<N>(groups, at, at as u64);
-            seen.read(reader, &laid, refused(at));
+            seen.read(reader, laid, refused(at));
         }
-    }
-    seen
+    })
 }
 
 /// What stands at an offset, if up to three bytes are left there.
@@ -356,6 +361,12 @@ pub fn short_slices<N: Numbers>(reader: &impl Reader, step: usize) -> Seen<N> {
     seen
 }
 
+/// The library reads all such slices rightly.
+pub fn must_read_short_slices<N: Numbers>(name: &str) {
+    let reads = (1 + 256 + 65_536 + 16_777_216) * 5;
+    short_slices::<N>(&library::<N>, 1).must_be_right(name, reads);
+}
+
 /// Offsets at and past the end of 0 to 8 bytes: near it, at the greatest
 /// offsets, and where 32 bits would lead back to the bytes.
 pub fn offsets_past_the_end<N: Numbers>(reader: &impl Reader) -> Seen<N> {
@@ -375,11 +386,17 @@ pub fn offsets_past_the_end<N: Numbers>(reader: &impl Reader) -> Seen<N> {
     seen
 }
 
+/// The library refuses all such offsets.
+pub fn must_refuse_offsets_past_the_end<N: Numbers>(name: &str) {
+    let reads = 9 * 11 * (5 + 9 + 18);
+    offsets_past_the_end::<N>(&library::<N>).must_be_right(name, reads);
+}
+
 /// Reads at each offset of 1 to 8 or 9 bytes, four more than a number may have,
 /// and just past them, with memory that ends behind them and before them; gives
 /// the count of reads. Each byte is one of two, so that numbers of every length
 /// stand everywhere, and all groups are 0, 1 or 127.
-pub fn read_between_fences<N: Numbers>(reader: impl Fn(&[u8], usize) -> Figures) -> u64 {
+fn read_between_fences<N: Numbers>(reader: impl Fn(&[u8], usize) -> Figures) -> u64 {
     let mut fenced = Fenced::new();
     let mut reads = 0;
     let lengths = 1..=N::GROUPS + 4;
@@ -398,6 +415,15 @@ pub fn read_between_fences<N: Numbers>(reader: impl Fn(&[u8], usize) -> Figures)
         }
     }
     reads
+}
+
+/// The library touches no byte beyond such slices.
+pub fn must_touch_no_byte_beyond<N: Numbers>(name: &str) {
+    let reads = read_between_fences::<N>(|bytes, at| N::read(&Library, bytes, at));
+    println!("{name}: {reads} reads");
+    let groups = N::GROUPS as u64;
+    let of_length = |length: u64| (1 << length) * 3 * (length + groups + 1) * 2;
+    assert_eq!(reads, (1..=groups + 4).map(of_length).sum());
 }
 
 /// The variable that asks for a reader which touches bytes beyond its slice.

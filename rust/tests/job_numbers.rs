@@ -5,7 +5,6 @@
 
 use std::iter;
 
-use secondcoop_tests::compare::{Codec, Library};
 use secondcoop_tests::ffi::Figures;
 use secondcoop_tests::numbers::{self, Groups, JobNumbers, Laid, Reader, MEMORY};
 
@@ -155,26 +154,19 @@ fn numbers_of_six_groups_are_refused() {
 /// All slices of 0 to 3 bytes, at offsets 0 to 4.
 #[test]
 fn every_short_slice_is_read() {
-    let reads = (1 + 256 + 65_536 + 16_777_216) * 5;
-    let seen: Seen = numbers::short_slices(&library, 1);
-    seen.must_be_right("every_short_slice_is_read", reads);
+    numbers::must_read_short_slices::<JobNumbers>("every_short_slice_is_read");
 }
 
 #[test]
 fn offsets_past_the_end_are_refused() {
-    let seen: Seen = numbers::offsets_past_the_end(&library);
-    let reads = 9 * 11 * (5 + 9 + 18);
-    seen.must_be_right("offsets_past_the_end_are_refused", reads);
+    let name = "offsets_past_the_end_are_refused";
+    numbers::must_refuse_offsets_past_the_end::<JobNumbers>(name);
 }
 
 /// 1 to 9 bytes, of groups 0, 1 or 127, at both ends of the memory.
 #[test]
 fn no_byte_beyond_the_slice_is_touched() {
-    let library = |bytes: &[u8], at| Library.read_job_number(bytes, at);
-    let reads = numbers::read_between_fences::<JobNumbers>(library);
-    println!("no_byte_beyond_the_slice_is_touched: {reads} reads");
-    let of_length = |length: u64| (1 << length) * 3 * (length + 6) * 2;
-    assert_eq!(reads, (1..=9).map(of_length).sum());
+    numbers::must_touch_no_byte_beyond::<JobNumbers>("no_byte_beyond_the_slice_is_touched");
 }
 
 #[test]

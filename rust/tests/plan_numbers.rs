@@ -108,26 +108,19 @@ fn every_word_without_end_is_refused() {
 /// All slices of 0 to 3 bytes.
 #[test]
 fn every_short_slice_is_read_alike() {
-    let reads = (1 + 256 + 65_536 + 16_777_216) * 5;
-    let seen: Seen = numbers::short_slices(&library, 1);
-    seen.must_be_right("every_short_slice_is_read_alike", reads);
+    numbers::must_read_short_slices::<PlanNumbers>("every_short_slice_is_read_alike");
 }
 
 #[test]
 fn offsets_past_the_end_are_refused() {
-    let seen: Seen = numbers::offsets_past_the_end(&library);
-    let reads = 9 * 11 * (5 + 9 + 18);
-    seen.must_be_right("offsets_past_the_end_are_refused", reads);
+    let name = "offsets_past_the_end_are_refused";
+    numbers::must_refuse_offsets_past_the_end::<PlanNumbers>(name);
 }
 
 /// 1 to 8 bytes, of groups 0, 1 or 127, at both ends of the memory.
 #[test]
 fn no_byte_beyond_the_slice_is_touched() {
-    let library = |bytes: &[u8], at| Library.read_plan_number(bytes, at);
-    let reads = numbers::read_between_fences::<PlanNumbers>(library);
-    println!("no_byte_beyond_the_slice_is_touched: {reads} reads");
-    let of_length = |length: u64| (1 << length) * 3 * (length + 5) * 2;
-    assert_eq!(reads, (1..=8).map(of_length).sum());
+    numbers::must_touch_no_byte_beyond::<PlanNumbers>("no_byte_beyond_the_slice_is_touched");
 }
 
 /// The same for whole plans, and for every beginning of one.

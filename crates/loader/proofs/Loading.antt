@@ -16,7 +16,7 @@ use Rattle.graph.specs.Lists.{headOf, costOf, classOf, over, edgesIn}
 use Rattle.plan_check.specs.Past.{cursorPast}
 use Rattle.graph.proofs.OneEdge.{Read, read-edge, edge-passes, passes-within}
 use Rattle.graph.proofs.Plan.{First, Accepts, accepts}
-use Rattle.plan_check.proofs.Checked.{Stored, stored-none, stored-next, first, cursor-next, sized-by}
+use Rattle.plan_check.proofs.Checked.{Stored, stored-none, stored-next, first, cursor-next, none-left, sized-by}
 use Rattle.search.specs.Outcome.{firstEdges}
 use Rattle.workspace.specs.declared.Size.{Size}
 use Rattle.workspace.specs.Layout.{base, graphWords, edgePut, withEdge}
@@ -229,10 +229,6 @@ load-whole z es w room le rise =
     let n : length (graphWords v es) ≡ v + 1 + 3 * m = length-graph v es ∙ ap (λ (i : ℕ). v + 1 + 3 * i) le in
     ap (loadFrom z 0 0 es) a ∙ b ∙ d ∙ sym (graph-columns v es r) ∙ ap (λ (i : ℕ). graphWords v es ++ drop i w) (sym n)
 
-empty : (es : List Edge) → length es ≡ 0 → es ≡ []
-empty [] h = refl
-empty (e ∷ es) h = absurd (omega arith)
-
 -- ---- the loop: j edges were stored, and the cursor stands before the rest
 
 pub record Loading (z : Size) (s : List ℕ) (at : ℕ) (w₀ w : List ℕ) (j : ℕ) (c : Cursor) : Type 0 where
@@ -290,8 +286,7 @@ module _ (z : Size) (s : List ℕ) (at : ℕ) (w₀ : List ℕ) where
         let m : ℕ = z .edges in
         let n : v + 1 - (c .tail + 1) ≡ v - c .tail = omega arith in
         let i : j ≡ m = omega (arith, k .stored .within) in
-        let o : edgesIn (edgesFrom v (m - j) s c) ≡ [] =
-        empty (edgesIn (edgesFrom v (m - j) s c)) (sized-by (edgesFrom v (m - j) s c) v (m - j) (k .stored .good) .1 ∙ omega arith) in
+        let o : edgesIn (edgesFrom v (m - j) s c) ≡ [] = none-left v m s at j c done (k .stored) in
         let x : (edgesFrom v m s (firstAt at) ≡ accepted v (edgesIn (edgesFrom v m s (firstAt at)))) × (length (edgesIn (edgesFrom v m s (firstAt at))) ≡ m)
         = sized-by (edgesFrom v m s (firstAt at)) v m h in
         let a : Accepts v m s (firstAt at) v (edgesIn (edgesFrom v m s (firstAt at)))
