@@ -27,7 +27,8 @@
  * - Memory that is written does not overlap other memory of the same call.
  *   Memory beyond what is written keeps its contents.
  * - `figures` points to SECONDCOOP_FIGURES numbers, for secondcoop_plan to
- *   SECONDCOOP_PLAN_FIGURES; the call writes them all, unused ones as 0. A
+ *   SECONDCOOP_PLAN_FIGURES, for secondcoop_explain to
+ *   SECONDCOOP_EXPLAIN_FIGURES; the call writes them all, unused ones as 0. A
  *   refusal in figures leaves all other memory untouched. `numbers` points to
  *   SECONDCOOP_HOUSE_NUMBERS numbers, `count` to one.
  * - Nothing is kept from call to call and there is no global state: several
@@ -38,11 +39,13 @@
  *   objects, as on Linux; position-independent, without unwind tables) and
  *   need `memcpy` and `memset` from outside, nothing else.
  * - A call needs SECONDCOOP_STACK bytes of stack at most,
- *   secondcoop_load_house SECONDCOOP_HOUSE_STACK, secondcoop_plan
- *   SECONDCOOP_PLAN_STACK, secondcoop_bench_text SECONDCOOP_TEXT_STACK.
+ *   secondcoop_load_house SECONDCOOP_HOUSE_STACK, secondcoop_plan and
+ *   secondcoop_explain SECONDCOOP_PLAN_STACK, secondcoop_bench_text and
+ *   secondcoop_explain_text SECONDCOOP_TEXT_STACK.
  * - `rt staticlib NAME` makes target/staticlib/libNAME.a: ffi_numbers has the
  *   functions on numbers, ffi_plans those on plans, ffi_planner those on
- *   houses, planner calls and bench jobs. A program links those that it calls.
+ *   houses, planner calls, explanations and bench jobs. A program links those
+ *   that it calls.
  *
  * Refusals. They are checked downwards and the first fault counts; plan
  * numbers are taken in byte order, each through all its rows before the next
@@ -67,7 +70,9 @@
  *                         over 16 rounds, odd, out of range or
  *                         rising, or both empty
  *   call              11  route under V words, work under        0
- *                         3V+1+3M, or wide under 2V numbers
+ *                         3V+1+3M, or wide under 2V numbers;
+ *                         in an explanation also places under V
+ *                         words or lanes under M
  *   anchor table      12  not 0 at the goal                      0
  *   anchor table      13  a lane breaks its rule                 first such lane
  *   bench program     14  not a job for the bench program        0
@@ -111,8 +116,11 @@ extern "C" {
  * house now: SECONDCOOP_HOUSE_ROUNDS is SECONDCOOP_STANDARD_ROUNDS, a call
  * that is handed the standard house is what it was, and bench jobs take it
  * always. The libraries need `memcpy` too.
+ *
+ * Version 6: secondcoop_explain and secondcoop_explain_text say why there is no
+ * route. What was there before is as it was.
  */
-#define SECONDCOOP_VERSION 5
+#define SECONDCOOP_VERSION 6
 
 /* Limits of a plan and of a call. */
 #define SECONDCOOP_MAX_PLACES 4096
@@ -140,15 +148,19 @@ extern "C" {
 
 /* Sizes of lent memory, in elements: figures; plan bytes that are always
  * enough to write so many lanes, and any plan; route, work and wide memory of
- * a planner call; bytes that are always enough for the text of a bench job. */
+ * a planner call; both lists of an explanation; bytes that are always enough
+ * for either text of a bench job. */
 #define SECONDCOOP_FIGURES 4
 #define SECONDCOOP_PLAN_FIGURES 8
+#define SECONDCOOP_EXPLAIN_FIGURES 10
 #define SECONDCOOP_PLAN_BYTES(lanes) (5 + 9 * (size_t)(lanes))
 #define SECONDCOOP_MAX_PLAN_BYTES SECONDCOOP_PLAN_BYTES(SECONDCOOP_MAX_LANES)
 #define SECONDCOOP_ROUTE_WORDS(places) ((size_t)(places))
 #define SECONDCOOP_WORK_WORDS(places, lanes) \
     (3 * (size_t)(places) + 1 + 3 * (size_t)(lanes))
 #define SECONDCOOP_WIDE_NUMBERS(places) (2 * (size_t)(places))
+#define SECONDCOOP_PLACES_WORDS(places) ((size_t)(places))
+#define SECONDCOOP_LANES_WORDS(lanes) ((size_t)(lanes))
 #define SECONDCOOP_MAX_TEXT 289654
 
 /*
@@ -163,8 +175,9 @@ extern "C" {
     (UINT32_C(2) * (uint32_t)(places) * (uint32_t)(rounds))
 
 /* Stack of a call, in bytes: of each function but those that follow, of
- * secondcoop_load_house, of secondcoop_plan, of secondcoop_bench_text.
- * Measured, with room to spare. */
+ * secondcoop_load_house, of secondcoop_plan and secondcoop_explain, of
+ * secondcoop_bench_text and secondcoop_explain_text. Measured, with room to
+ * spare. */
 #define SECONDCOOP_STACK 1024
 #define SECONDCOOP_HOUSE_STACK 8192
 #define SECONDCOOP_PLAN_STACK 16384
@@ -392,6 +405,51 @@ void secondcoop_plan(const uint8_t *bytes, size_t bytes_length,
                      uint64_t *wide, size_t wide_length,
                      uint64_t *figures);
 
+/* The last two of an explanation's ten figures; the first eight are those of a
+ * planner call. */
+enum {
+    SECONDCOOP_EXPLAIN_PLACES = 8,
+    SECONDCOOP_EXPLAIN_LANES = 9
+};
+
+/*
+ * Says why there is no route. It is secondcoop_plan on the same arguments, and
+ * leaves route, log, work and wide memory as that call does. Where the call
+ * gives no route, two lists are written besides:
+ *
+ * places       The places that the tug can reach: those to which a chain of
+ *              permitted lanes leads from the start, rising. The start is one
+ *              of them and the goal is not, and no permitted lane leads from
+ *              one of them to another place.
+ * lanes        The lanes that hold the tug up, by their numbers from 0 among
+ *              all lanes in plan order, rising: each barred lane whose tail is
+ *              one of these places and whose head is not. Without any, no
+ *              barred class is the reason: no lane leaves these places at all.
+ *
+ * Memory behind what is listed keeps its contents. A route, unfinished and a
+ * refusal list nothing and leave both lists untouched.
+ *
+ * Figures: the eight of secondcoop_plan, then how many places and how many
+ * lanes are listed, 0 and 0 where nothing is. A refusal is that of
+ * secondcoop_plan, with 11 also if places has under V words
+ * (SECONDCOOP_PLACES_WORDS) or lanes under M (SECONDCOOP_LANES_WORDS).
+ */
+void secondcoop_explain(const uint8_t *bytes, size_t bytes_length,
+                        uint32_t start, uint32_t goal, uint32_t barred,
+                        const uint32_t *anchor, size_t anchor_length,
+                        const uint32_t *guides, size_t guides_length,
+                        uint32_t guide_count,
+                        const uint32_t *schedule, size_t schedule_length,
+                        const uint32_t *house, size_t house_length,
+                        uint32_t budget,
+                        uint32_t *route, size_t route_length,
+                        uint32_t *log, size_t log_length,
+                        uint32_t *work, size_t work_length,
+                        uint64_t *wide, size_t wide_length,
+                        uint32_t *places, size_t places_length,
+                        uint32_t *lanes, size_t lanes_length,
+                        uint64_t *figures);
+
 /*
  * What the bench program prints for a job's bytes: plan length, the plan,
  * start, goal, barred number, allowance, count of rounds and their factors,
@@ -418,6 +476,18 @@ void secondcoop_plan(const uint8_t *bytes, size_t bytes_length,
  */
 size_t secondcoop_bench_text(const uint8_t *job, size_t job_length,
                              uint8_t *text, size_t text_length);
+
+/*
+ * The explanation of a job's bytes as lines: those of secondcoop_bench_text
+ * without the turn lines, and after `no route turns N`
+ *
+ *   reach S S ..                                       the places listed
+ *   barred lane L tail S head S cost C class K         for each lane listed
+ *
+ * Length, room and refusals are as there.
+ */
+size_t secondcoop_explain_text(const uint8_t *job, size_t job_length,
+                               uint8_t *text, size_t text_length);
 
 #ifdef __cplusplus
 }
