@@ -1,11 +1,11 @@
 -- The permitted edges are those whose class has bit 0, in order; and a walk over them costs the same over all edges.
-use mathlib.Core.Path.{_≡_, refl, sym, ap, _∙_}
+use mathlib.Core.Path.{_≡_, refl, sym, ap, _∙_, subst}
 use mathlib.Core.Bool.{Bool, true, false, true≢false, cond}
 use mathlib.Core.List.{List, [], _∷_, _++_, List·Memᴰ, List·Memᴰ·head, List·Memᴰ·tail}
 use Prim.Native.Nat.{ℕ, _+_, _*_, _/_, _%_, _^_, _<_}
 use native.Mathlib.Nat.{mod-lt, mod-add-div', one-le-pow, div-eq-of-lt, add-mul-div-right}
 use native.Mathlib.Omega.{arith}
-use borrow.Author.Tests.{eqb-false, ne-eqb}
+use borrow.Author.Tests.{eqb-true, eqb-false, eq-eqb, ne-eqb}
 use Rattle.graph.specs.declared.Edge.{Edge}
 use Rattle.search.specs.declared.RouteCost.the-variants.{Cost}
 use Rattle.search.specs.Walk.{Walk, here, along, routeCost}
@@ -18,26 +18,41 @@ use Rattle.search.proofs.Route.{walk-cost}
 power : (k : ℕ) → 0 < 2 ^ k
 power k = one-le-pow k 2 (omega arith)
 
-even-half : (q : ℕ) → (q % 2 ≡ 1 → ⊥) → q ≡ 0 + 2 * (q / 2)
-even-half q n = omega arith
+halves : (q : ℕ) → q ≡ q % 2 + 2 * (q / 2)
+halves q = omega arith
 
-pub clear-bit : (b k : ℕ) → barredBy b k ≡ false → Bit b k 0
-unfolding barredBy
-clear-bit b k h =
+-- bit k, as the definition of a barred class reckons it
+bit-here : (b k : ℕ) → Bit b k (b / 2 ^ k % 2)
+bit-here b k =
     let q : ℕ = b / 2 ^ k in
     record {
       lo = b % 2 ^ k;
       hi = q / 2;
       below = mod-lt b (power k);
-      is = sym (mod-add-div' b (2 ^ k)) ∙ ap (λ (x : ℕ). b % 2 ^ k + x * 2 ^ k) (even-half q (eqb-false (q % 2) 1 h));
+      is = sym (mod-add-div' b (2 ^ k)) ∙ ap (λ (x : ℕ). b % 2 ^ k + x * 2 ^ k) (halves q);
     }
+
+bit-there : (b k x : ℕ) → x < 2 → Bit b k x → b / 2 ^ k % 2 ≡ x
+bit-there b k x h t =
+    let q : b / 2 ^ k ≡ t .lo / 2 ^ k + (x + 2 * t .hi)
+    = ap (λ (n : ℕ). n / 2 ^ k) (t .is) ∙ add-mul-div-right (t .lo) (x + 2 * t .hi) (power k) in
+    omega (arith, q, div-eq-of-lt (t .below))
+
+pub clear-bit : (b k : ℕ) → barredBy b k ≡ false → Bit b k 0
+unfolding barredBy
+clear-bit b k h = subst (λ (x : ℕ). Bit b k x) (let n : b / 2 ^ k % 2 ≡ 1 → ⊥ = eqb-false (b / 2 ^ k % 2) 1 h in omega arith) (bit-here b k)
 
 pub bit-clear : (b k : ℕ) → Bit b k 0 → barredBy b k ≡ false
 unfolding barredBy
-bit-clear b k t =
-    let q : b / 2 ^ k ≡ t .lo / 2 ^ k + (0 + 2 * t .hi)
-    = ap (λ (x : ℕ). x / 2 ^ k) (t .is) ∙ add-mul-div-right (t .lo) (0 + 2 * t .hi) (power k) in
-    ne-eqb (b / 2 ^ k % 2) 1 (λ e. omega (arith, q, div-eq-of-lt (t .below)))
+bit-clear b k t = ne-eqb (b / 2 ^ k % 2) 1 (λ e. omega (arith, bit-there b k 0 (omega arith) t))
+
+pub set-bit : (b k : ℕ) → barredBy b k ≡ true → Bit b k 1
+unfolding barredBy
+set-bit b k h = subst (λ (x : ℕ). Bit b k x) (eqb-true (b / 2 ^ k % 2) 1 h) (bit-here b k)
+
+pub bit-set : (b k : ℕ) → Bit b k 1 → barredBy b k ≡ true
+unfolding barredBy
+bit-set b k t = eq-eqb (b / 2 ^ k % 2) 1 (bit-there b k 1 (omega arith) t)
 
 -- ---- the permitted edges
 

@@ -1,0 +1,146 @@
+-- The explanation of "no route" (E8): a planner call made once more, and what holds the tug up: the vertices (places) that it can reach, and the
+-- barred edges (lanes) that leave them.
+use Prim.Native.Nat.{ℕ, suc, _≤_, _<_}
+use mathlib.Core.Path.{_≡_}
+use mathlib.Core.Logic.{_↔_}
+use mathlib.Core.Bool.{Bool, cond, not, _&&_, _||_}
+use mathlib.Core.List.{List, [], _∷_, _++_, List·Memᴰ}
+use lib.ListN.{length, getD}
+use lib.Dec.{ltb}
+use Rattle.graph.specs.declared.Edge.{Edge}
+use Rattle.graph.specs.Plan.{Decoded, accepted, refused, decode}
+use Rattle.graph.specs.Lists.{Fault, none, fault, over}
+use Rattle.search.specs.declared.Vertex.{Vertex}
+use Rattle.search.specs.declared.Answer.{Answer}
+use Rattle.search.specs.declared.Answer.the-variants.{Route, NoRoute, Unfinished, Refused}
+use Rattle.search.specs.declared.Explanation.{Explanation}
+use Rattle.search.specs.Walk.{Walk}
+use Rattle.search.specs.Permitted.{barredBy, Bit}
+use Rattle.search.specs.Job.{Job, unreached, at}
+use Rattle.search.specs.Call.{Memory, Call, row, first, callRows, anchorRows, faultOf, planEdges, jobOf}
+use Rattle.search.specs.Admitted.{Admitted}
+use Rattle.search.specs.Outcome.{noRoute, figures, outcome, answerIn, answer, memoryIn, memoryAfter}
+
+-- what is asked: a planner call, and two lists lent besides, as they are
+pub record Inquiry : Type 0 where
+  pub call : Call
+  -- for the vertices that can be reached
+  pub vertices : List ℕ
+  -- for the barred edges that leave them
+  pub edges : List ℕ
+
+-- ---- refusals: those of the call
+
+-- 11 also: fewer than V words for the vertices, or M for the edges
+unfoldable pub listsRow : Inquiry → ℕ → ℕ → Fault
+listsRow x v m = row (ltb (length (x .vertices)) v || ltb (length (x .edges)) m) 11 0
+
+-- the same rows downwards, this one beside the call's own 11
+unfoldable pub inquiryFaultIn : Inquiry → Decoded → Fault
+inquiryFaultIn x (refused n p) = fault n p
+inquiryFaultIn x (accepted v es) =
+    first (callRows (x .call) v (length es) ++ (listsRow x v (length es) ∷ anchorRows (x .call) es))
+
+unfoldable pub inquiryFault : Inquiry → Fault
+inquiryFault x = inquiryFaultIn x (decode (x .call .bytes))
+
+-- what the call answers, refused as the inquiry is
+unfoldable pub answered : Inquiry → Answer
+answered x = answerIn (x .call) (inquiryFault x)
+
+-- memory lent for the call is as the call leaves it
+unfoldable pub callMemory : Inquiry → Memory
+callMemory x = memoryIn (x .call) (inquiryFault x)
+
+-- ---- the lists
+
+-- the numbers, from k on, of the elements that pass a test
+unfoldable pub numbersOf : {A : Type 0} → (A → Bool) → ℕ → List A → List ℕ
+numbersOf test k [] = []
+numbersOf test k (x ∷ xs) = cond (test x) (k ∷ numbersOf test (suc k) xs) (numbersOf test (suc k) xs)
+
+-- a walk has reached the vertex
+unfoldable pub isReached : Vertex → Bool
+isReached p = ltb (p .g) unreached
+
+-- the edge is barred, its tail is reached, and its head is not
+unfoldable pub leaves : ℕ → List Vertex → Edge → Bool
+leaves b st e = barredBy b (e .class) && isReached (at st (e .tail)) && not (isReached (at st (e .head)))
+
+-- the vertices where the call's search ends
+unfoldable pub lastVertices : Call → List Vertex
+lastVertices c = outcome c .final .state .vertices
+
+unfoldable pub reachable : Call → List ℕ
+reachable c = numbersOf isReached 0 (lastVertices c)
+
+-- edge numbers are those of all edges in plan order
+unfoldable pub leaving : Call → List ℕ
+leaving c = numbersOf (leaves (c .barred) (lastVertices c)) 0 (planEdges c)
+
+-- nothing is listed unless there is no route
+unfoldable pub listedAt : Answer → List ℕ → List ℕ
+listedAt (Route s) l = []
+listedAt (NoRoute t) l = l
+listedAt (Unfinished t) l = []
+listedAt (Refused n p) l = []
+
+unfoldable pub verticesListed : Inquiry → List ℕ
+verticesListed x = listedAt (answered x) (reachable (x .call))
+
+unfoldable pub edgesListed : Inquiry → List ℕ
+edgesListed x = listedAt (answered x) (leaving (x .call))
+
+-- ---- what is handed over; each list stands over what was there
+
+unfoldable pub explanation : Inquiry → Explanation
+explanation x = record { answer = answered x; vertices = length (verticesListed x); edges = length (edgesListed x) }
+
+-- ---- what the lists are, so that neither has to be believed
+
+abbrev pub Rises : List ℕ → Type 0
+Rises l = (i : ℕ) → suc i < length l → getD l i 0 < getD l (suc i) 0
+
+-- edge number j is barred, its tail is in the set, and its head is not
+pub record Leaves (barred : ℕ) (edges : List Edge) (set : List ℕ) (j : ℕ) : Type 0 where
+  pub edge : Edge
+  pub number : j < length edges
+  pub is : (other : Edge) → getD edges j other ≡ edge
+  pub class : Bit barred (edge .class) 1
+  pub inside : List·Memᴰ (edge .tail) set
+  pub outside : List·Memᴰ (edge .head) set → ⊥
+
+-- why the job has no route: the set, and the barred edges of the plan that leave it
+pub record Reason (job : Job) (barred : ℕ) (edges : List Edge) (set leaving : List ℕ) : Type 0 where
+  pub start : List·Memᴰ (job .start) set
+  pub goal : List·Memᴰ (job .goal) set → ⊥
+  -- no permitted edge leaves the set
+  pub closed : (e : Edge) → List·Memᴰ e (job .edges) → List·Memᴰ (e .tail) set → List·Memᴰ (e .head) set
+  -- a walk leads to a vertex exactly if it is in the set
+  pub walks : (x : ℕ) → List·Memᴰ x set ↔ ((n : ℕ) × (r : List ℕ) × Walk (job .edges) (job .start) x r n)
+  pub rising : Rises set
+  pub exact : (j : ℕ) → List·Memᴰ j leaving ↔ Leaves barred edges set j
+  pub in-order : Rises leaving
+
+-- ---- the claim
+
+-- the lists have room: for a refused plan there is nothing to list
+pub record Room (x : Inquiry) : Type 0 where
+  pub vertices : jobOf (x .call) .size ≤ length (x .vertices)
+  pub edges : length (planEdges (x .call)) ≤ length (x .edges)
+
+-- of one inquiry
+pub record Reasoned (x : Inquiry) : Type 0 where
+  -- refused as the call is, and with 11 also where a list is too short: under these conditions and no other
+  pub exact : inquiryFault x ≡ none ↔ (Admitted (x .call) × Room x)
+  pub own : Room x → inquiryFault x ≡ faultOf (x .call)
+  pub refusal : (n p : ℕ) → inquiryFault x ≡ fault n p → (answered x ≡ Refused n p) × (callMemory x ≡ x .call .memory)
+  -- else answer and memory are those of the call, of which its guarantee speaks
+  pub same : inquiryFault x ≡ none → (answered x ≡ answer (x .call)) × (callMemory x ≡ memoryAfter (x .call))
+  -- no route: the lists say why; else they are empty, and stand as they were
+  pub reason :
+      figures (answered x) .ending ≡ noRoute →
+      Reason (jobOf (x .call)) (x .call .barred) (planEdges (x .call)) (verticesListed x) (edgesListed x)
+  pub silent : (figures (answered x) .ending ≡ noRoute → ⊥) → (verticesListed x ≡ []) × (edgesListed x ≡ [])
+  -- both lists have room for what is listed
+  pub room : (length (verticesListed x) ≤ length (x .vertices)) × (length (edgesListed x) ≤ length (x .edges))
