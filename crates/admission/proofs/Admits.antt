@@ -20,7 +20,7 @@ use Rattle.admission.specs.Verdict.{verdict}
 use Rattle.admission.specs.Admission.{firstEdgeAt, verdictOf}
 
 -- the header of a plan that is accepted
-accepted-header :
+pub accepted-header :
     (s : List ℕ) (v : ℕ) (es : List Edge) → decode s ≡ accepted v es → header s ≡ Counts v (length es) (firstEdgeAt (header s))
 unfolding decode afterHeader firstEdgeAt
 accepted-header s v es d = by (header s) refl

@@ -163,11 +163,11 @@ module _ (x : Inquiry) where
   room-by (accepted v es) h = clear-lists v (length es) (clear-row (listsRow x v (length es)) (anchorRows c es) (callRows c v (length es)) h)
   room-by (refused n p) h = absurd (fault≢none h)
 
-  own : Room x → inquiryFault x ≡ faultOf c
+  pub own : Room x → inquiryFault x ≡ faultOf c
   unfolding inquiryFault faultOf jobOf planEdges
   own r = own-by (decode (c .bytes)) (r .vertices) (r .edges)
 
-  roomy : inquiryFault x ≡ none → Room x
+  pub roomy : inquiryFault x ≡ none → Room x
   unfolding inquiryFault jobOf planEdges
   roomy h = let r = room-by (decode (c .bytes)) h in record { vertices = r .0; edges = r .1 }
 
@@ -219,7 +219,7 @@ module _ (x : Inquiry) where
     valid : Valid (jobOf c)
     valid = admitted c (unrefused e)
 
-    sized : length (lastVertices c) ≡ jobOf c .size
+    pub sized : length (lastVertices c) ≡ jobOf c .size
     unfolding lastVertices outcome search
     sized = between (jobOf c) valid (run-good (jobOf c) valid (c .budget) (begin (jobOf c)) (begin-good (jobOf c) valid) .ok .reach) .ground .sized
 

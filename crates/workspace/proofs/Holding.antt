@@ -17,7 +17,7 @@ use Rattle.workspace.specs.declared.Size.{Size}
 use Rattle.workspace.specs.Layout.{base, Words, mem, WorkRoom, Room, verticesOf, written, firstOf, edgeAt, edgesRun, edgesAt, edgesUnder, graphOf, graphWords, Loaded, Ready, Becomes}
 use Rattle.workspace.specs.Holds.{Rising, then, Holds}
 use Rattle.workspace.proofs.Firsts.{passes-rising, below-none, below-all, below-rise, below-most, tail-at, length-firsts, length-graph, graph-columns}
-use Rattle.workspace.proofs.Written.{verticesOf-written, written-written, ready-loaded, graphOf-written}
+use Rattle.workspace.proofs.Written.{verticesOf-written, written-written, first-written, ready-loaded, graphOf-written}
 
 -- the edges of an accepted plan rise
 pub accepted-rising : (s : List ℕ) (v : ℕ) (es : List Edge) → decode s ≡ accepted v es → Rising v 0 es
@@ -143,6 +143,9 @@ module _ (z : Size) (es : List Edge) (r : List ℕ) (le : length es ≡ z .edges
       let d : drop k (drop a es) ≡ drop (edgesBelow (suc t) es) es = drop-drop k a es ∙ ap (λ (i : ℕ). drop i es) s in
       rw (at-is t (omega arith), under-is n (suc t) (omega arith), ← d) (take-append-drop k (drop a es))
 
+  pub origin-is : firstOf words 0 ≡ 0
+  origin-is = first-is 0 (omega arith) ∙ below-none 0 es rise (omega arith)
+
   pub graph-is : graphOf z words ≡ es
   unfolding graphOf
   graph-is = under-is (z .vertices) 0 (omega arith) ∙ rw (below-none 0 es rise (omega arith))
@@ -238,6 +241,14 @@ module _ (z : Size) (es : List Edge) (st : List Vertex) (old m : Words) (h : Hol
       ap (λ (x : Words). graphOf z (x .work)) as-written
       ∙ graphOf-written z loaded loaded-room loaded-graph st (h .vertices)
       ∙ graph-is z es (drop (length (graphWords (z .vertices) es)) (old .work)) (h .edges) (h .rising)
+
+  -- the first edge is number 0
+  pub holds-origin : firstOf (m .work) 0 ≡ 0
+  unfolding over
+  holds-origin =
+      ap (λ (x : Words). firstOf (x .work) 0) as-written
+      ∙ first-written z loaded loaded-room st (h .vertices) 0 (omega arith)
+      ∙ origin-is z es (drop (length (graphWords (z .vertices) es)) (old .work)) (h .edges) (h .rising)
 
   pub holds-ready : Ready z m
   holds-ready = rw as-written (ready-loaded z loaded loaded-room loaded-graph st (h .vertices))

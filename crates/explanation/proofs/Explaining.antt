@@ -1,0 +1,359 @@
+-- The call and its lists, as the definitions of an explanation have them.
+use Prim.Native.Nat.{ℕ, _≤_, _<_}
+use native.Mathlib.Omega.{arith}
+use mathlib.Core.Path.{_≡_, refl, sym, ap, _∙_, subst}
+use mathlib.Core.Bool.{Bool, true, false, true≢false, cond, _||_}
+use mathlib.Core.List.{List, [], _∷_, _++_, append-nil}
+use lib.ListN.{length, take, drop}
+use lib.Seq.{take-all, take-length, drop-length}
+use lib.Dec.{ltb}
+use borrow.Author.Tests.{lt-ltb, le-ltb, ltb-false}
+use Rattle.graph.specs.declared.Edge.{Edge}
+use Rattle.graph.specs.Plan.{Decoded, accepted, refused, header, decode}
+use Rattle.graph.proofs.Tests.{or-false, or-left, or-right}
+use Rattle.graph.proofs.Within.{accepted-within}
+use Rattle.text.specs.Laid.{Put}
+use Rattle.text.proofs.Laid.{laid-zero}
+use Rattle.graph.specs.Lists.{Fault, none, fault, over, edgesIn}
+use Rattle.search.specs.declared.Vertex.{Vertex}
+use Rattle.search.specs.declared.Answer.{Answer}
+use Rattle.search.specs.declared.Answer.the-variants.{Route, NoRoute, Unfinished, Refused}
+use Rattle.search.specs.declared.Explanation.{Explanation}
+use Rattle.search.specs.Call.{Memory, Call, scheduleOf, row, first, endsRow, tablesRow, memoryRow, goalRow, anchorRows, faultIn, faultOf, planEdges, jobIn, jobFrom, jobOf}
+use Rattle.search.specs.Admitted.{Admitted}
+use Rattle.search.specs.Outcome.{workWords, wideWords, answerIn, answer, memoryIn, memoryAfter}
+use Rattle.search.proofs.Admitted.{exact, plan-edges}
+use Rattle.search.specs.Reason.{Inquiry, listsRow, inquiryFaultIn, inquiryFault, answered, callMemory, numbersOf, isReached, leaves, lastVertices, reachable, leaving, listedAt, verticesListed, edgesListed, explanation, Room}
+use Rattle.search.proofs.Guarantee.{guaranteed}
+use Rattle.search.proofs.Reason.{own, roomy, unrefused, sized, reasoned}
+use Rattle.search.proofs.Numbers.{numbers-few}
+use Rattle.workspace.specs.declared.Size.{Size}
+use Rattle.workspace.specs.Layout as layout
+use Rattle.workspace.specs.Layout.{base, Words, verticesOf, graphOf}
+use Rattle.workspace.specs.Holds.{Holds}
+use Rattle.admission.proofs.Admits.{accepted-header}
+use Rattle.planner.specs.Plan.{memoryOf, Planned}
+use Rattle.planner.specs.Carried.{wordsOf}
+use Rattle.workspace.proofs.Written.{length-verticesOf}
+use Rattle.workspace.proofs.Holding.{accepted-rising, holds-vertices, holds-graph, holds-origin, holds-ready}
+use Rattle.explanation.specs.Explained.{Explained}
+use Rattle.explanation.specs.Listing.{sizeIn, endsWithout, Held, Listable, reachedIn, leavingIn, Lists}
+
+-- ---- the lists after a call
+
+listed : (a : Answer) (l : List ℕ) → endsWithout a ≡ true → listedAt a l ≡ l
+unfolding endsWithout listedAt
+listed (Route s) l h = absurd (true≢false (sym h))
+listed (NoRoute t) l h = refl
+listed (Unfinished t) l h = absurd (true≢false (sym h))
+listed (Refused n p) l h = absurd (true≢false (sym h))
+
+unlisted : (a : Answer) (l : List ℕ) → endsWithout a ≡ false → listedAt a l ≡ []
+unfolding endsWithout listedAt
+unlisted (Route s) l h = refl
+unlisted (NoRoute t) l h = absurd (true≢false h)
+unlisted (Unfinished t) l h = refl
+unlisted (Refused n p) l h = refl
+
+-- numbers put at a list's front, where it has room
+put-over : {new old : List ℕ} {r : ℕ} {list : List ℕ} → Put 0 new old r list → length new ≤ length old → (r ≡ length new) × (list ≡ over new old)
+unfolding over
+put-over {new} {old} p h = (
+  omega (arith, p .next),
+  p .memory ∙ laid-zero new old ∙ ap (λ (l : List ℕ). l ++ drop (length new) old) (take-all (length old) new h),
+)
+
+module _ (a : Answer) (z : Size) (barred : ℕ) (m : Words) (vertices edges : List ℕ) where
+  pub nothing-listed : endsWithout a ≡ false → Lists a z barred m vertices edges (record { answer = a; vertices = 0; edges = 0 }) vertices edges
+  unfolding reachedIn leavingIn over
+  nothing-listed h =
+      let v = unlisted a (numbersOf isReached 0 (verticesOf z m)) h in
+      let e = unlisted a (numbersOf (leaves barred (verticesOf z m)) 0 (graphOf z (m .work))) h in
+      record { answer-is = refl; vertex-count = rw v; edge-count = rw e; vertices-are = rw v; edges-are = rw e }
+
+  pub both-listed :
+      endsWithout a ≡ true → Held z m vertices edges → (v e : ℕ) (vertices′ edges′ : List ℕ) → Put 0 (numbersOf isReached 0 (verticesOf z m)) vertices v vertices′ →
+      Put 0 (numbersOf (leaves barred (verticesOf z m)) 0 (graphOf z (m .work))) edges e edges′ →
+      Lists a z barred m vertices edges (record { answer = a; vertices = v; edges = e }) vertices′ edges′
+  unfolding reachedIn leavingIn
+  both-listed h y v e vertices′ edges′ p q =
+      let f = put-over p (omega (arith, numbers-few isReached 0 (verticesOf z m), length-verticesOf z m, y .vertices-room)) in
+      let g = put-over q (omega (arith, numbers-few (leaves barred (verticesOf z m)) 0 (graphOf z (m .work)), y .edge-count, y .edges-room)) in
+      let i = listed a (numbersOf isReached 0 (verticesOf z m)) h in
+      let j = listed a (numbersOf (leaves barred (verticesOf z m)) 0 (graphOf z (m .work))) h in
+      record {
+        answer-is = refl;
+        vertex-count = rw i (f .0);
+        edge-count = rw j (g .0);
+        vertices-are = rw i (f .1);
+        edges-are = rw j (g .1);
+      }
+
+-- two answers list the same
+same-listed : (a b : Answer) (l k : List ℕ) → a ≡ b → (endsWithout a ≡ true → l ≡ k) → listedAt a l ≡ listedAt b k
+same-listed a b l k q f = by (endsWithout a) refl ∙ ap (λ (y : Answer). listedAt y k) q
+  where
+    by : (t : Bool) → endsWithout a ≡ t → listedAt a l ≡ listedAt a k
+    by true e = ap (listedAt a) (f e)
+    by false e = unlisted a l e ∙ sym (unlisted a k e)
+
+same-explanation : {a b : Answer} {v w e f : ℕ} → a ≡ b → v ≡ w → e ≡ f →
+    _≡_ {A = Explanation} (record { answer = a; vertices = v; edges = e }) (record { answer = b; vertices = w; edges = f })
+same-explanation p q r = rw (p, q, r)
+
+-- ---- V and M
+
+module _ (s : List ℕ) (v : ℕ) (es : List Edge) (d : decode s ≡ accepted v es) where
+  header-size : sizeIn (header s) ≡ record { vertices = v; edges = length es }
+  unfolding sizeIn
+  header-size = ap sizeIn (accepted-header s v es d)
+
+-- the call, lent this route memory
+abbrev lending : List ℕ → Call → Call
+lending route c =
+    record {
+      bytes = c .bytes;
+      start = c .start;
+      goal = c .goal;
+      barred = c .barred;
+      anchor = c .anchor;
+      sheets = c .sheets;
+      count = c .count;
+      schedule = c .schedule;
+      defaultSchedule = c .defaultSchedule;
+      budget = c .budget;
+      memory = memoryOf route (c .memory .log) (c .memory .work) (c .memory .wide);
+    }
+
+-- the call, lent n words of its route memory
+abbrev pub lentTo : ℕ → Call → Call
+lentTo n c = lending (take n (c .memory .route)) c
+
+-- the memory of a call whose route memory is m's before the rest of what was lent
+abbrev pub withRest : ℕ → Call → Memory → Memory
+withRest n c m = memoryOf (m .route ++ drop n (c .memory .route)) (m .log) (m .work) (m .wide)
+
+module _ (x : Inquiry) (z : Size) (size-is : z ≡ sizeIn (header (x .call .bytes))) where
+  abbrev c : Call
+  c = x .call
+
+  -- a list is too short
+  abbrev short : Bool
+  short = ltb (length (x .vertices)) (z .vertices) || ltb (length (x .edges)) (z .edges)
+
+  -- what is to be shown: the call answers as the inquiry does, and leaves what the lists are made of
+  record Answers (a : Answer) (m : Memory) : Type 0 where
+    answer-is : a ≡ answered x
+    memory-is : m ≡ callMemory x
+    held : endsWithout a ≡ true → Held z (wordsOf m) (x .vertices) (x .edges)
+    vertices : endsWithout a ≡ true → verticesOf z (wordsOf m) ≡ lastVertices c
+    edges : endsWithout a ≡ true → graphOf z (m .work) ≡ planEdges c
+
+  size-of : (y : Admitted c) → jobOf c .size ≡ y .size
+  unfolding jobOf jobFrom jobIn
+  size-of y = rw (y .plan)
+
+  -- ---- both lists have room
+
+  module _ (h : short ≡ false) where
+    rooms : (z .vertices ≤ length (x .vertices)) × (z .edges ≤ length (x .edges))
+    rooms = (ltb-false _ _ (or-left (ltb (length (x .vertices)) (z .vertices)) _ h), ltb-false _ _ (or-right (ltb (length (x .vertices)) (z .vertices)) _ h))
+
+    room-by : (d : Decoded) → decode (c .bytes) ≡ d → (jobFrom c d .size ≤ length (x .vertices)) × (length (edgesIn d) ≤ length (x .edges))
+    unfolding jobFrom jobIn edgesIn
+    room-by (accepted v es) d = rw (size-is, header-size (c .bytes) v es d) at rooms
+    room-by (refused n p) d = (omega arith, omega arith)
+
+    room : Room x
+    unfolding jobOf planEdges
+    room = let r = room-by (decode (c .bytes)) refl in record { vertices = r .0; edges = r .1 }
+
+    same-fault : inquiryFault x ≡ faultOf c
+    same-fault = own x room
+
+    module _ (a : Answer) (m : Memory) (k : Planned c a m) where
+      -- where there is no route, the call is not refused
+      not-refused : endsWithout a ≡ true → faultOf c ≡ none
+      unfolding answer endsWithout answerIn
+      not-refused e = by (faultOf c) refl (subst (λ (y : Answer). endsWithout y ≡ true) (k .answers) e)
+        where
+          by : (f : Fault) → faultOf c ≡ f → endsWithout (answerIn c f) ≡ true → faultOf c ≡ none
+          by none g t = g
+          by (fault n p) g t = absurd (true≢false (sym t))
+
+      module _ (f : faultOf c ≡ none) where
+        abbrev y : Admitted c
+        y = exact c .0 f
+
+        size-there : z ≡ record { vertices = y .size; edges = length (y .edges) }
+        size-there = size-is ∙ header-size (c .bytes) (y .size) (y .edges) (y .plan)
+
+        plan-is : planEdges c ≡ y .edges
+        plan-is = plan-edges c (y .size) (y .edges) (y .plan)
+
+        vertex-count : z .vertices ≡ y .size
+        vertex-count = ap (λ (u : Size). u .vertices) size-there
+
+        edge-count : z .edges ≡ length (y .edges)
+        edge-count = ap (λ (u : Size). u .edges) size-there
+
+        work-is : m .work ≡ over (workWords (jobOf c .size) (planEdges c) (lastVertices c)) (c .memory .work)
+        unfolding memoryAfter memoryIn lastVertices
+        work-is = ap (λ (u : Memory). u .work) (k .memory-is) ∙ rw f refl
+
+        wide-is : m .wide ≡ over (wideWords (lastVertices c)) (c .memory .wide)
+        unfolding memoryAfter memoryIn lastVertices
+        wide-is = ap (λ (u : Memory). u .wide) (k .memory-is) ∙ rw f refl
+
+        room-there : layout.Room z (wordsOf (c .memory))
+        unfolding base
+        room-there =
+            record {
+              work = omega (arith, y .fits .work-room, vertex-count, edge-count);
+              wide = omega (arith, y .fits .wide-room, vertex-count);
+            }
+
+        holds : Holds z (planEdges c) (lastVertices c) (wordsOf (c .memory)) (wordsOf m)
+        holds =
+            record {
+              words = work-is ∙ ap (λ (v : ℕ). over (workWords v (planEdges c) (lastVertices c)) (c .memory .work)) (size-of y ∙ sym vertex-count);
+              numbers = wide-is;
+              room = room-there;
+              vertices = sized x (same-fault ∙ f) ∙ size-of y ∙ sym vertex-count;
+              edges = ap length plan-is ∙ sym edge-count;
+              rising = rw (plan-is, vertex-count) (accepted-rising (c .bytes) (y .size) (y .edges) (y .plan));
+            }
+
+      answers-here : Answers a m
+      unfolding answered callMemory answer memoryAfter
+      answers-here =
+          record {
+            answer-is = k .answers ∙ ap (answerIn c) (sym same-fault);
+            memory-is = k .memory-is ∙ ap (memoryIn c) (sym same-fault);
+            held = λ e.
+                let o = holds (not-refused e) in
+                record {
+                  ready = holds-ready z _ _ _ _ o;
+                  origin = holds-origin z _ _ _ _ o;
+                  edge-count = ap length (holds-graph z _ _ _ _ o) ∙ o .edges;
+                  vertices-room = rooms .0;
+                  edges-room = rooms .1;
+                };
+            vertices = λ e. holds-vertices z _ _ _ _ (holds (not-refused e));
+            edges = λ e. holds-graph z _ _ _ _ (holds (not-refused e));
+          }
+
+    -- all of route memory is lent on
+    whole-lent : (a : Answer) (m : Memory) → Planned (lentTo (length (c .memory .route)) c) a m → Answers a (withRest (length (c .memory .route)) c m)
+    whole-lent a m p =
+        let rest : m .route ++ drop (length (c .memory .route)) (c .memory .route) ≡ m .route
+        = ap (λ (l : List ℕ). m .route ++ l) (drop-length (c .memory .route)) ∙ append-nil (m .route) in
+        subst (λ (r : List ℕ). Answers a (memoryOf r (m .log) (m .work) (m .wide))) (sym rest)
+        (answers-here a m (subst (λ (r : List ℕ). Planned (lending r c) a m) (take-length (c .memory .route)) p))
+
+  -- ---- a list is too short: no route memory is lent on, and the call is refused as the inquiry is
+
+  module _ (h : short ≡ true) where
+    -- the rows before 11, the call's own 11 or none, and 11
+    eleven : (p q r : Fault) (t : Bool) (ss us : List Fault) → first (p ∷ q ∷ r ∷ row t 11 0 ∷ fault 11 0 ∷ ss) ≡ first (p ∷ q ∷ r ∷ fault 11 0 ∷ us)
+    unfolding first row
+    eleven (fault i j) q r t ss us = refl
+    eleven none (fault i j) r t ss us = refl
+    eleven none none (fault i j) t ss us = refl
+    eleven none none none true ss us = refl
+    eleven none none none false ss us = refl
+
+    short-by : (v : ℕ) (es : List Edge) → decode (c .bytes) ≡ accepted v es → listsRow x v (length es) ≡ fault 11 0
+    unfolding listsRow row
+    short-by v es d = rw (rw (size-is, header-size (c .bytes) v es d) at h)
+
+    none-lent : (v m : ℕ) → 1 ≤ v → memoryRow (lentTo 0 c) v m ≡ fault 11 0
+    unfolding memoryRow row
+    none-lent v m l = rw (lt-ltb 0 v l)
+
+    fault-by : (d : Decoded) → decode (c .bytes) ≡ d → inquiryFaultIn x d ≡ faultIn (lentTo 0 c) d
+    unfolding inquiryFaultIn faultIn endsRow tablesRow scheduleOf goalRow
+    fault-by (accepted v es) d =
+        rw (short-by v es d, none-lent v (length es) (accepted-within (c .bytes) v es d .some))
+        (unfold memoryRow in (eleven _ _ _ _ (anchorRows c es) (anchorRows c es)))
+    fault-by (refused n p) d = refl
+
+    same-refusal : inquiryFault x ≡ faultOf (lentTo 0 c)
+    unfolding inquiryFault faultOf
+    same-refusal = fault-by (decode (c .bytes)) refl
+
+    some-fault : inquiryFault x ≡ none → ⊥
+    some-fault e =
+        let r : Room x = roomy x e in
+        let y : Admitted c = exact c .0 (unrefused x e) in
+        let s = size-is ∙ header-size (c .bytes) (y .size) (y .edges) (y .plan) in
+        let v : z .vertices ≤ length (x .vertices) = omega (arith, ap (λ (u : Size). u .vertices) s, size-of y, r .vertices) in
+        let w : z .edges ≤ length (x .edges)
+        = omega (arith, ap (λ (u : Size). u .edges) s, ap length (plan-edges c (y .size) (y .edges) (y .plan)), r .edges) in
+        true≢false (sym h ∙ or-false _ _ (le-ltb _ _ v) (le-ltb _ _ w))
+
+    module _ (a : Answer) (m : Memory) (k : Planned (lentTo 0 c) a m) where
+      refused-there : (f : Fault) → inquiryFault x ≡ f → faultOf (lentTo 0 c) ≡ f → Answers a (withRest 0 c m)
+      unfolding answered callMemory answer memoryAfter answerIn memoryIn endsWithout
+      refused-there none e g = absurd (some-fault e)
+      refused-there (fault n p) e g =
+          let q : a ≡ Refused n p = k .answers ∙ rw g refl in
+          let u : m ≡ lentTo 0 c .memory = k .memory-is ∙ rw g refl in
+          record {
+            answer-is = q ∙ rw e refl;
+            memory-is = ap (withRest 0 c) u ∙ rw e refl;
+            held = λ t. absurd (true≢false (sym t ∙ ap endsWithout q));
+            vertices = λ t. absurd (true≢false (sym t ∙ ap endsWithout q));
+            edges = λ t. absurd (true≢false (sym t ∙ ap endsWithout q));
+          }
+
+  -- ---- in either case
+
+  module _ (n : ℕ) (lent : n ≡ cond short 0 (length (c .memory .route))) where
+    pub lends : n ≤ length (c .memory .route)
+    lends = by short lent
+      where
+        by : (b : Bool) → n ≡ cond b 0 (length (c .memory .route)) → n ≤ length (c .memory .route)
+        by true e = omega arith
+        by false e = omega arith
+
+    module _ (a : Answer) (m : Memory) (k : Planned (lentTo n c) a m) where
+      answers : Answers a (withRest n c m)
+      answers = by short refl lent
+        where
+          by : (b : Bool) → short ≡ b → n ≡ cond b 0 (length (c .memory .route)) → Answers a (withRest n c m)
+          by true h e =
+              subst (λ (i : ℕ). Planned (lentTo i c) a m → Answers a (withRest i c m)) (sym e)
+              (λ p. refused-there h a m p (inquiryFault x) refl (sym (same-refusal h))) k
+          by false h e =
+              subst (λ (i : ℕ). Planned (lentTo i c) a m → Answers a (withRest i c m)) (sym e) (whole-lent h a m) k
+
+      pub listable : Listable a z (wordsOf m) (x .vertices) (x .edges)
+      listable e = answers .held e
+
+      module _ (r : Explanation) (vertices edges : List ℕ) (l : Lists a z (c .barred) (wordsOf m) (x .vertices) (x .edges) r vertices edges) where
+        vertices-same : reachedIn a z (wordsOf m) ≡ verticesListed x
+        unfolding reachedIn verticesListed reachable
+        vertices-same =
+            same-listed a (answered x) _ _ (answers .answer-is) (λ e. ap (λ (st : List Vertex). numbersOf isReached 0 st) (answers .vertices e))
+
+        edges-same : leavingIn a z (c .barred) (wordsOf m) ≡ edgesListed x
+        unfolding leavingIn edgesListed leaving
+        edges-same =
+            same-listed a (answered x) _ _ (answers .answer-is)
+            (λ e.
+            ap (λ (st : List Vertex). numbersOf (leaves (c .barred) st) 0 (graphOf z (m .work))) (answers .vertices e)
+            ∙ ap (λ (es : List Edge). numbersOf (leaves (c .barred) (lastVertices c)) 0 es) (answers .edges e))
+
+        pub explained : Explained x r (withRest n c m) vertices edges
+        unfolding explanation
+        explained =
+            record {
+              answers =
+                  same-explanation (l .answer-is ∙ answers .answer-is) (l .vertex-count ∙ ap length vertices-same) (l .edge-count ∙ ap length edges-same);
+              memory-is = answers .memory-is;
+              vertices-are = l .vertices-are ∙ ap (λ (new : List ℕ). over new (x .vertices)) vertices-same;
+              edges-are = l .edges-are ∙ ap (λ (new : List ℕ). over new (x .edges)) edges-same;
+              reasoned = reasoned x;
+              promise = guaranteed c;
+            }
