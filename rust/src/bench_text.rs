@@ -98,6 +98,67 @@ pub fn refused(number: u32, position: usize) -> String {
     format!("refused {number} at {position}\n")
 }
 
+/// A job's bytes as a planner call can take them: the bench program's own
+/// refusals and the plan's do not apply.
+pub struct Taken<'a> {
+    job: BenchJob<'a>,
+    vertices: usize,
+    edges: usize,
+    anchor: Vec<u32>,
+    guides: Vec<u32>,
+}
+
+impl<'a> Taken<'a> {
+    /// Reads a job, or gives the text that is printed of its refusal.
+    pub fn read(bytes: &'a [u8]) -> Result<Taken<'a>, String> {
+        let job = BenchJob::read(bytes).ok_or_else(|| refused(14, 0))?;
+        let (vertices, edges) = match reference::check_plan(job.plan) {
+            Ok((vertices, edges)) => (vertices as usize, edges as usize),
+            Err(refusal) => return Err(refused(refusal.number, refusal.position)),
+        };
+        let tables = job.read_tables(vertices, edges);
+        let (anchor, guides) = tables.ok_or_else(|| refused(14, 0))?;
+        Ok(Taken {
+            job,
+            vertices,
+            edges,
+            anchor,
+            guides,
+        })
+    }
+
+    pub fn request(&self) -> Request<'_> {
+        Request {
+            bytes: self.job.plan,
+            start: self.job.start,
+            goal: self.job.goal,
+            barred: self.job.barred,
+            anchor: &self.anchor,
+            guides: &self.guides,
+            guide_count: self.job.guide_count,
+            schedule: &self.job.schedule,
+            default_schedule: &STANDARD_SCHEDULE,
+            budget: self.job.budget,
+        }
+    }
+
+    /// Makes a call that is lent enough memory and no log: its answer, and
+    /// what it leaves in route memory.
+    pub fn call<A>(&self, call: impl FnOnce(&Request, Memory) -> A) -> (A, Vec<u32>) {
+        let mut route = vec![0; self.vertices];
+        let mut work = vec![0; planner::work_words(self.vertices, self.edges)];
+        let mut wide = vec![0; planner::wide_numbers(self.vertices)];
+        let memory = Memory {
+            route: &mut route,
+            log: &mut [],
+            work: &mut work,
+            wide: &mut wide,
+        };
+        let answer = call(&self.request(), memory);
+        (answer, route)
+    }
+}
+
 /// What the bench program prints for a job's bytes.
 pub fn bench_text(bytes: &[u8]) -> String {
     bench_text_by(bytes, None)
@@ -107,42 +168,17 @@ pub fn bench_text(bytes: &[u8]) -> String {
 /// wanted. The turns are those that the planner itself names: it is lent no
 /// log.
 pub fn bench_text_by(bytes: &[u8], fault: Option<Fault>) -> String {
-    let Some(job) = BenchJob::read(bytes) else {
-        return refused(14, 0);
-    };
-    let (vertices, edges) = match reference::check_plan(job.plan) {
-        Ok((vertices, edges)) => (vertices as usize, edges as usize),
-        Err(refusal) => return refused(refusal.number, refusal.position),
-    };
-    let Some((anchor, guides)) = job.read_tables(vertices, edges) else {
-        return refused(14, 0);
-    };
-    let request = Request {
-        bytes: job.plan,
-        start: job.start,
-        goal: job.goal,
-        barred: job.barred,
-        anchor: &anchor,
-        guides: &guides,
-        guide_count: job.guide_count,
-        schedule: &job.schedule,
-        default_schedule: &STANDARD_SCHEDULE,
-        budget: job.budget,
-    };
-    let mut route = vec![0; vertices];
-    let mut work = vec![0; planner::work_words(vertices, edges)];
-    let mut wide = vec![0; planner::wide_numbers(vertices)];
-    let memory = Memory {
-        route: &mut route,
-        log: &mut [],
-        work: &mut work,
-        wide: &mut wide,
+    let taken = match Taken::read(bytes) {
+        Ok(taken) => taken,
+        Err(refused) => return refused,
     };
     let mut turns = Vec::new();
-    let answer = planner::plan_observed(&request, memory, fault, &mut |event| {
-        if let Event::Turn { table, vertex, .. } = event {
-            turns.push((table, vertex));
-        }
+    let (answer, route) = taken.call(|request, memory| {
+        planner::plan_observed(request, memory, fault, &mut |event| {
+            if let Event::Turn { table, vertex, .. } = event {
+                turns.push((table, vertex));
+            }
+        })
     });
     answer_text(&answer, &route, &turns)
 }

@@ -2,10 +2,11 @@
 //!
 //! Each call on plan bytes leaves four figures: refusal number, position,
 //! first value and second value; unused figures are 0. A planner call leaves
-//! eight. A default schedule, which the interface calls a house, is 32 numbers
-//! and a count.
+//! eight, an explanation ten. A default schedule, which the interface calls a
+//! house, is 32 numbers and a count.
 
 use crate::default_schedule::Numbers;
+use crate::explanation::{self, Lists};
 use crate::planner::{self, Memory, Request};
 
 /// What a call on plan bytes leaves: refusal number, position, first and
@@ -93,7 +94,43 @@ extern "C" {
         wide_length: usize,
         figures: *mut u64,
     );
+    fn secondcoop_explain(
+        bytes: *const u8,
+        bytes_length: usize,
+        start: u32,
+        goal: u32,
+        barred: u32,
+        anchor: *const u32,
+        anchor_length: usize,
+        guides: *const u32,
+        guides_length: usize,
+        guide_count: u32,
+        schedule: *const u32,
+        schedule_length: usize,
+        house: *const u32,
+        house_length: usize,
+        budget: u32,
+        route: *mut u32,
+        route_length: usize,
+        log: *mut u32,
+        log_length: usize,
+        work: *mut u32,
+        work_length: usize,
+        wide: *mut u64,
+        wide_length: usize,
+        places: *mut u32,
+        places_length: usize,
+        lanes: *mut u32,
+        lanes_length: usize,
+        figures: *mut u64,
+    );
     fn secondcoop_bench_text(
+        job: *const u8,
+        job_length: usize,
+        text: *mut u8,
+        text_length: usize,
+    ) -> usize;
+    fn secondcoop_explain_text(
         job: *const u8,
         job_length: usize,
         text: *mut u8,
@@ -254,9 +291,54 @@ pub fn plan(request: &Request, memory: Memory) -> planner::Figures {
     })
 }
 
+/// An explanation: a planner call that lists, where it gives no route, what
+/// can be reached and which barred lanes leave that.
+pub fn explain(request: &Request, memory: Memory, lists: Lists) -> explanation::Figures {
+    // SAFETY: as above, and the lists are lent mutably and are disjoint.
+    figures_of(|figures| unsafe {
+        secondcoop_explain(
+            request.bytes.as_ptr(),
+            request.bytes.len(),
+            request.start,
+            request.goal,
+            request.barred,
+            request.anchor.as_ptr(),
+            request.anchor.len(),
+            request.guides.as_ptr(),
+            request.guides.len(),
+            request.guide_count,
+            request.schedule.as_ptr(),
+            request.schedule.len(),
+            request.default_schedule.as_ptr(),
+            request.default_schedule.len(),
+            request.budget,
+            memory.route.as_mut_ptr(),
+            memory.route.len(),
+            memory.log.as_mut_ptr(),
+            memory.log.len(),
+            memory.work.as_mut_ptr(),
+            memory.work.len(),
+            memory.wide.as_mut_ptr(),
+            memory.wide.len(),
+            lists.places.as_mut_ptr(),
+            lists.places.len(),
+            lists.lanes.as_mut_ptr(),
+            lists.lanes.len(),
+            figures,
+        )
+    })
+}
+
 /// What the bench program prints for a job's bytes: the length of the text,
 /// whose first bytes are written as far as there is room.
 pub fn bench_text(job: &[u8], text: &mut [u8]) -> usize {
     // SAFETY: as above, and `text` is lent mutably.
     unsafe { secondcoop_bench_text(job.as_ptr(), job.len(), text.as_mut_ptr(), text.len()) }
+}
+
+/// The explanation of a job's bytes as lines: the length of the text, whose
+/// first bytes are written as far as there is room.
+pub fn explain_text(job: &[u8], text: &mut [u8]) -> usize {
+    // SAFETY: as above.
+    unsafe { secondcoop_explain_text(job.as_ptr(), job.len(), text.as_mut_ptr(), text.len()) }
 }

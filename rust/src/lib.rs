@@ -9,6 +9,7 @@ pub mod compare;
 pub mod default_schedule;
 pub mod dijkstra;
 pub mod events;
+pub mod explanation;
 pub mod fenced;
 pub mod ffi;
 pub mod generate;

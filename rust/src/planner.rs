@@ -1041,7 +1041,13 @@ pub fn is_bad_schedule(schedule: &[u32]) -> bool {
 
 /// One planner call.
 pub fn plan(request: &Request, memory: Memory) -> Answer {
-    plan_with(request, memory, Nobody)
+    let room = Room::of(&memory);
+    plan_with(request, memory, room, Nobody)
+}
+
+/// One planner call where row 11 looks at more room than that of its memory.
+pub fn plan_in(request: &Request, memory: Memory, room: Room) -> Answer {
+    plan_with(request, memory, room, Nobody)
 }
 
 /// One planner call whose events are handed to `observe`, all but those of
@@ -1057,7 +1063,8 @@ pub fn plan_observed(
         closely: false,
         observe,
     };
-    plan_with(request, memory, observer)
+    let room = Room::of(&memory);
+    plan_with(request, memory, room, observer)
 }
 
 /// One planner call whose events are all handed to `observe`.
@@ -1071,11 +1078,11 @@ pub fn plan_observed_closely(
         closely: true,
         observe,
     };
-    plan_with(request, memory, observer)
+    let room = Room::of(&memory);
+    plan_with(request, memory, room, observer)
 }
 
-fn plan_with<O: Onlooker>(request: &Request, memory: Memory, onlooker: O) -> Answer {
-    let room = Room::of(&memory);
+fn plan_with<O: Onlooker>(request: &Request, memory: Memory, room: Room, onlooker: O) -> Answer {
     let schedule = taken(request, &onlooker);
     let counts = match admitted(request, schedule, room, &onlooker) {
         Ok(counts) => counts,
@@ -1106,6 +1113,9 @@ pub struct Room {
     pub route: usize,
     pub work: usize,
     pub wide: usize,
+    /// An explanation's lists, of places and of lanes; a planner call has
+    /// none.
+    pub lists: Option<[usize; 2]>,
 }
 
 impl Room {
@@ -1114,14 +1124,17 @@ impl Room {
             route: memory.route.len(),
             work: memory.work.len(),
             wide: memory.wide.len(),
+            lists: None,
         }
     }
 
     /// Whether it is too little for V vertices and M edges.
     pub fn is_short(&self, vertices: usize, edges: usize) -> bool {
+        let short_list = |[places, lanes]: [usize; 2]| places < vertices || lanes < edges;
         self.route < vertices
             || self.work < work_words(vertices, edges)
             || self.wide < wide_numbers(vertices)
+            || self.lists.is_some_and(short_list)
     }
 }
 
