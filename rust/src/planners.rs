@@ -174,6 +174,11 @@ impl Lent {
 
 /// Runs a job in guarded memory; `salt` selects the pattern that fills it.
 pub fn run(planner: &dyn Planner, job: &Job, salt: u64) -> Outcome {
+    run_by(job, salt, |request, memory| planner.plan(request, memory))
+}
+
+/// The same with any call that leaves the figures of a planner call.
+pub fn run_by(job: &Job, salt: u64, call: impl FnOnce(&Request, Memory) -> Figures) -> Outcome {
     let bytes = Guarded::with_contents(&job.bytes, salt);
     let anchor = Guarded::with_contents(&job.anchor, salt);
     let guides = Guarded::with_contents(&job.guides, salt);
@@ -188,7 +193,7 @@ pub fn run(planner: &dyn Planner, job: &Job, salt: u64) -> Outcome {
         default_schedule: default_schedule.lent(),
         ..job.request()
     };
-    let figures = planner.plan(&request, lent.memory());
+    let figures = call(&request, lent.memory());
     Outcome {
         figures,
         route: lent.route.all,
@@ -211,9 +216,19 @@ pub struct TextOutcome {
 
 /// Runs the bench program's text in guarded memory.
 pub fn run_text(planner: &dyn Planner, bytes: &[u8], room: usize, salt: u64) -> TextOutcome {
+    run_text_by(bytes, room, salt, |job, text| planner.bench_text(job, text))
+}
+
+/// The same with any call that writes a text of a job's bytes.
+pub fn run_text_by(
+    bytes: &[u8],
+    room: usize,
+    salt: u64,
+    call: impl FnOnce(&[u8], &mut [u8]) -> usize,
+) -> TextOutcome {
     let job = Guarded::with_contents(bytes, salt);
     let mut text = Guarded::with_room(room, salt);
-    let length = planner.bench_text(job.lent(), text.lent_mut());
+    let length = call(job.lent(), text.lent_mut());
     TextOutcome {
         length,
         text: text.all,
@@ -243,9 +258,11 @@ pub fn kind_of(figures: &Figures) -> usize {
     }
 }
 
-/// The kind of ending that a printed text tells.
+/// The kind of ending that a printed text tells, an explanation's too.
 pub fn kind_of_text(text: &str) -> usize {
-    let last = text.lines().last().expect("a text has a line");
+    let is_listed = |line: &&str| line.starts_with("reach ") || line.starts_with("barred lane ");
+    let mut lines = text.lines().rev().skip_while(is_listed);
+    let last = lines.next().expect("a text has a line");
     let words: Vec<&str> = last.split(' ').collect();
     match words[..] {
         ["refused", number, "at", _] => number.parse().expect("a refusal has a number"),
@@ -257,7 +274,7 @@ pub fn kind_of_text(text: &str) -> usize {
 }
 
 /// A text of bounded length for a failed comparison.
-fn shortened(mut text: String) -> String {
+pub fn shortened(mut text: String) -> String {
     if text.len() > 3_000 {
         text.truncate(3_000);
         text.push_str("...");

@@ -4,10 +4,12 @@
 
 use crate::bench_text::{answer_text, logged, refused};
 use crate::default_schedule::DefaultSchedule;
+use crate::explainers::{self, Explainer};
+use crate::explanation::{self, Lists, Reason};
 use crate::jobs::Job;
 use crate::planner::{or_default, wide_numbers, work_words, Answer, Memory, MOST_FACTORS};
 use crate::planners::{printed, Loader, Planner};
-use crate::reference::{MOST_EDGES, MOST_VERTICES};
+use crate::reference::{self, MOST_EDGES, MOST_VERTICES};
 use crate::refusals::Taker;
 use crate::text::{Line, TextJob};
 
@@ -91,4 +93,55 @@ pub fn call(planner: &(impl Planner + Loader), job: &TextJob) -> String {
     let answer = Answer::of_figures(figures).expect("figures of an answer");
     let [.., turns, _] = figures;
     answer_text(&answer, &route, &logged(&log, turns as usize))
+}
+
+/// What the explanation that a job asks gives: the answer, what it left in
+/// route memory, and what is listed; and the call that was asked.
+pub struct Explained {
+    pub answer: Answer,
+    pub route: Vec<u32>,
+    pub reason: Reason,
+    pub job: Job,
+}
+
+/// The explanation that a job asks, with memory enough; bytes without the
+/// numbers of a call ask none.
+pub fn explained(explainer: &(impl Explainer + Loader), job: &TextJob) -> Option<Explained> {
+    let job = asked(explainer, job)?;
+    let (places, lanes) = reference::check_plan(&job.bytes).unwrap_or((0, 0));
+    let mut route = vec![0; job.route_room];
+    let mut lists = [places, lanes].map(|room| vec![0; room as usize]);
+    let memory = Memory {
+        route: &mut route,
+        log: &mut [],
+        work: &mut vec![0; job.work_room],
+        wide: &mut vec![0; job.wide_room],
+    };
+    let [places, lanes] = &mut lists;
+    let lent = Lists { places, lanes };
+    let figures = explainer.explain(&job.request(), memory, lent);
+    let (call, counts) = explanation::parts(figures);
+    for (list, count) in lists.iter_mut().zip(counts) {
+        list.truncate(count as usize);
+    }
+    let [places, lanes] = lists;
+    Some(Explained {
+        answer: Answer::of_figures(call).expect("figures of an answer"),
+        route,
+        reason: Reason { places, lanes },
+        job,
+    })
+}
+
+/// The lines that an explainer prints for a job, whose default schedule it
+/// loads too.
+pub fn explained_lines(explainer: &(impl Explainer + Loader), job: &TextJob) -> String {
+    if Taker::of(job) == Taker::Bench {
+        return explainers::printed(explainer, &job.bytes());
+    }
+    let Some(explained) = explained(explainer, job) else {
+        return refused(14, 0);
+    };
+    let (answer, route) = (&explained.answer, &explained.route);
+    explanation::lines(answer, route, &explained.job.bytes, &explained.reason)
 }

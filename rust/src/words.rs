@@ -10,6 +10,21 @@ pub fn count(number: usize, name: &str) -> String {
     format!("{number} {name}{plural}")
 }
 
+/// Rising numbers, where three or more follow one another the first and the
+/// last of them.
+pub fn ranges(numbers: &[u32]) -> String {
+    let follows = |before: &u32, after: &u32| before + 1 == *after;
+    let word = |run: &[u32]| match *run {
+        [first, _, .., last] => format!("{first}-{last}"),
+        _ => {
+            let numbers: Vec<String> = run.iter().map(u32::to_string).collect();
+            numbers.join(" ")
+        }
+    };
+    let words: Vec<String> = numbers.chunk_by(follows).map(word).collect();
+    words.join(" ")
+}
+
 /// A word between quotes, characters that nobody sees spelt out, its first
 /// 40 if it is long.
 pub fn quoted(word: &str) -> String {
@@ -94,4 +109,24 @@ pub fn no_class(class: u32) -> String {
 
 pub fn no_barred_number(barred: u32) -> String {
     format!("barred {barred} is above {MOST_BARRED}; it has bit k for class k, classes 0 to 7")
+}
+
+#[cfg(test)]
+mod tests {
+    use super::ranges;
+
+    #[test]
+    fn numbers_that_follow_one_another() {
+        for (numbers, words) in [
+            (&[][..], ""),
+            (&[7], "7"),
+            (&[0, 1], "0 1"),
+            (&[0, 1, 2], "0-2"),
+            (&[0, 2, 4], "0 2 4"),
+            (&[0, 1, 3, 4, 5, 6, 9], "0 1 3-6 9"),
+            (&[4_093, 4_094, 4_095], "4093-4095"),
+        ] {
+            assert_eq!(ranges(numbers), words);
+        }
+    }
 }

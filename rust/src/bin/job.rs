@@ -1,5 +1,5 @@
 //! Plans a job with the proved library, says in plain words what is wrong
-//! with it, and turns its readable text form into the bytes that the bench
+//! with it or why it has no route, and turns its readable text form into the bytes that the bench
 //! program reads, and back. `secondcoop_tests::text` has the form.
 
 use std::collections::BTreeMap;
@@ -9,6 +9,7 @@ use std::process::ExitCode;
 use secondcoop_tests::input::{name_of, Input};
 use secondcoop_tests::lead;
 use secondcoop_tests::planners::{self, Library, Loader, Planner, SecondPlanner};
+use secondcoop_tests::reason;
 use secondcoop_tests::reference::LAST_REFUSAL;
 use secondcoop_tests::refusals::{
     beyond_bench, default_remarks, position_words, refusal_words, remarks, Remark, Taker,
@@ -25,6 +26,9 @@ usage: job run FILE         plans the job with the proved library; prints its tu
        job print FILE       as run, but by the second planner, which is tested and not proved
        job lead FILE        as run, but says of each turn how dear its place is and how dear it
                             may be, and last how near guides and anchor came to that
+       job explain FILE     says why the job has no route: the places that the tug can reach and
+                            the barred lanes that lead from these to others; explain --lines FILE
+                            prints that in lines for programs
        job bytes FILE       the job's bytes, as the bench program reads them
        job hex FILE         the job's bytes as hexadecimal pairs
        job text FILE        the job's text form
@@ -42,8 +46,11 @@ The lead: a guide expands a place only if its key, cost + w1 * number, is at mos
 cost of the cheapest chain, and the anchor only if it is at most w1 times that. Turns and rounds
 are the proved library's; the places' costs in each turn and the cheapest chain are reckoned by
 code that is tested and not proved.
-The bench program takes up to 256 places, 2048 lanes and 32768 bytes; run, check, print and lead
-take what the planner call takes, up to 4096 places and 32768 lanes.
+The explanation is the proved library's. Opening the class of a barred lane that it names takes the
+tug past that lane and not yet to the goal; where it names none, no lane leads from these places to
+others, and no class helps. On a route and on a job that is unfinished it says so and names nothing.
+The bench program takes up to 256 places, 2048 lanes and 32768 bytes; run, check, print, lead and
+explain take what the planner call takes, up to 4096 places and 32768 lanes.
 Exit status: 0 a route, or done; 1 no route; 2 unfinished; 3 refused, with the reason in plain
 words, and check on a sheet that is rejected; 4 nothing was done: wrong use, a file or a line that
 cannot be read or said in bytes, or output that cannot be written.
@@ -192,7 +199,12 @@ impl Read {
 
     /// What a planner prints for the job, its sheet loaded.
     fn run(&self, planner: &(impl Planner + Loader)) -> Done {
-        let printed = run::run(planner, &self.job);
+        self.ended(planner, run::run(planner, &self.job))
+    }
+
+    /// A printed text with the exit status that its ending has, and what is
+    /// wrong with the job.
+    fn ended(&self, loader: &dyn Loader, printed: String) -> Done {
         let status = match planners::kind_of_text(&printed) {
             planners::ROUTE => 0,
             planners::NO_ROUTE => NO_ROUTE,
@@ -201,8 +213,26 @@ impl Read {
         };
         Done {
             output: printed.into_bytes(),
-            errors: self.rejection(planner) + &self.faults(Taker::of(&self.job)),
+            errors: self.rejection(loader) + &self.faults(Taker::of(&self.job)),
             status,
+        }
+    }
+
+    /// The lines of the library's explanation.
+    fn explain_lines(&self) -> Done {
+        self.ended(&Library, run::explained_lines(&Library, &self.job))
+    }
+
+    /// The same in plain words; a refusal as it is.
+    fn explain(&self) -> Done {
+        let done = self.explain_lines();
+        if done.status == REFUSED {
+            return done;
+        }
+        let explained = run::explained(&Library, &self.job).expect("a job that is planned");
+        Done {
+            output: reason::text(&explained).into_bytes(),
+            ..done
         }
     }
 
@@ -274,6 +304,7 @@ fn on_file(command: &str, path: Option<&OsStr>) -> Done {
         "check" => Read::check,
         "print" => |read| read.run(&SecondPlanner),
         "lead" => Read::lead,
+        "explain" => Read::explain,
         "bytes" => |read| read.bytes(|bytes| bytes),
         "hex" => |read| read.bytes(|bytes| pairs_text("", &bytes).into_bytes()),
         "text" => |read| read.form(read.job.to_string()),
@@ -282,6 +313,11 @@ fn on_file(command: &str, path: Option<&OsStr>) -> Done {
             return Done::wrong(NOTHING_DONE, words);
         }
     };
+    on_job(path, done)
+}
+
+/// Does something with the job that stands in a file.
+fn on_job(path: Option<&OsStr>, done: fn(&Read) -> Done) -> Done {
     match Read::file(path) {
         Ok(read) => done(&read),
         Err(wrong) => Done::wrong(NOTHING_DONE, wrong),
@@ -294,6 +330,12 @@ fn main() -> ExitCode {
     };
     let done = match &arguments[..] {
         [command, number] if command == "describe" => describe(&number.to_string_lossy()),
+        [command, lines] if command == "explain" && lines == "--lines" => {
+            on_job(None, Read::explain_lines)
+        }
+        [command, lines, path] if command == "explain" && lines == "--lines" => {
+            on_job(Some(path), Read::explain_lines)
+        }
         [command] => on_file(&command.to_string_lossy(), None),
         [command, path] => on_file(&command.to_string_lossy(), Some(path)),
         _ => Done::wrong(NOTHING_DONE, USAGE),

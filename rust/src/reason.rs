@@ -1,0 +1,77 @@
+//! The reason for no route in plain words, for whoever is rung up when a tug
+//! reports none: how far the tug comes, and which barred lanes hold it up.
+
+use crate::explanation::edges_of;
+use crate::jobs::Job;
+use crate::planner::Answer;
+use crate::reference::Edge;
+use crate::run::Explained;
+use crate::words::{count, ranges};
+
+/// What `job explain` says of a job that is planned.
+pub fn text(explained: &Explained) -> String {
+    let job = &explained.job;
+    match explained.answer {
+        Answer::Route { cost, .. } => {
+            format!("there is a route, cost {cost}; nothing to explain\n")
+        }
+        Answer::Unfinished { turns } => unfinished(job, turns),
+        Answer::NoRoute { .. } => no_route(explained),
+        Answer::Refused { number, position } => format!("refused {number} at {position}\n"),
+    }
+}
+
+fn unfinished(job: &Job, turns: u32) -> String {
+    let places = job.anchor.len();
+    format!(
+        "unfinished after {}: the allowance ended the first round, so nothing is known; give it \
+         {}, 2 for each of the {}, and it comes to an end\n",
+        count(turns as usize, "turn"),
+        count(2 * places, "turn"),
+        count(places, "place"),
+    )
+}
+
+fn no_route(explained: &Explained) -> String {
+    let job = &explained.job;
+    let (edges, places) = edges_of(&job.bytes);
+    let reason = &explained.reason;
+    let mut text = format!(
+        "there is no route from place {} to place {} over permitted lanes\n\
+         from place {} the tug can reach {} of the {}: {}\n",
+        job.start,
+        job.goal,
+        job.start,
+        reason.places.len(),
+        count(places, "place"),
+        ranges(&reason.places),
+    );
+    text += &match reason.lanes.len() {
+        0 => return text + NO_LANE,
+        1 => "1 barred lane leads from these places to another:\n".to_string(),
+        lanes => format!("{lanes} barred lanes lead from these places to others:\n"),
+    };
+    for &number in &reason.lanes {
+        text += &lane_words(number, edges[number as usize]);
+    }
+    text + &format!(
+        "whether it then comes to place {} is not said here: run the job with that class open\n",
+        job.goal
+    )
+}
+
+const NO_LANE: &str = "no lane at all, barred or not, leads from these places to others, so \
+                       opening classes does not help\n";
+
+fn lane_words(number: u32, edge: Edge) -> String {
+    let Edge {
+        tail,
+        head,
+        cost,
+        class,
+    } = edge;
+    format!(
+        "open class {class} and the tug gets past lane {tail} -> {head} (lane number {number}, \
+         cost {cost})\n"
+    )
+}
