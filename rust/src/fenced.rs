@@ -1,5 +1,5 @@
-//! Memory between pages that cannot be touched: a call that reads before its
-//! first byte or behind its last one ends the program.
+//! Memory between pages that cannot be touched: a call that reads or writes
+//! before its first byte or behind its last one ends the program.
 
 use std::ffi::{c_int, c_long, c_void};
 use std::slice;
@@ -60,14 +60,14 @@ impl Fenced {
     }
 
     /// These bytes, with nothing behind them.
-    pub fn at_the_end(&mut self, bytes: &[u8]) -> &[u8] {
+    pub fn at_the_end(&mut self, bytes: &[u8]) -> &mut [u8] {
         let lent = &mut self.middle()[ROOM - bytes.len()..];
         lent.copy_from_slice(bytes);
         lent
     }
 
     /// These words, with nothing behind them.
-    pub fn words_at_the_end(&mut self, words: &[u32]) -> &[u32] {
+    pub fn words_at_the_end(&mut self, words: &[u32]) -> &mut [u32] {
         let first = ROOM - size_of_val(words);
         // SAFETY: any bytes are words.
         let (before, lent, behind) = unsafe { self.middle()[first..].align_to_mut::<u32>() };

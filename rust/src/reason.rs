@@ -25,7 +25,7 @@ fn unfinished(job: &Job, turns: u32) -> String {
     let places = job.anchor.len();
     format!(
         "unfinished after {}: the allowance ended the first round, so nothing is known; give it \
-         {}, 2 for each of the {}, and it comes to an end\n",
+         {}, 2 for each of the {}, which are enough for that round\n",
         count(turns as usize, "turn"),
         count(2 * places, "turn"),
         count(places, "place"),
