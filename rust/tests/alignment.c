@@ -10,11 +10,11 @@ enum { PLACES = 16, LANES = 30, BYTES = 256, WORDS = 512, WIDE = 40, SHIFTS = 16
 
 /* Lists of one call, each at a shift of so many elements. */
 static uint8_t byte_memory[3][BYTES + SHIFTS] __attribute__((aligned(64)));
-static uint32_t word_memory[6][WORDS + SHIFTS] __attribute__((aligned(64)));
+static uint32_t word_memory[8][WORDS + SHIFTS] __attribute__((aligned(64)));
 static uint64_t wide_memory[WIDE + SHIFTS] __attribute__((aligned(64)));
-static uint64_t figure_memory[SECONDCOOP_PLAN_FIGURES + SHIFTS] __attribute__((aligned(64)));
+static uint64_t figure_memory[SECONDCOOP_EXPLAIN_FIGURES + SHIFTS] __attribute__((aligned(64)));
 static uint8_t *bytes[3];
-static uint32_t *words[6];
+static uint32_t *words[8];
 static uint64_t *wide;
 static uint64_t *figures;
 
@@ -24,14 +24,14 @@ static void place(int shift)
         bytes[at] = byte_memory[at] + shift;
         memset(bytes[at], 0xEE, BYTES);
     }
-    for (int at = 0; at < 6; at++) {
+    for (int at = 0; at < 8; at++) {
         words[at] = word_memory[at] + shift;
         memset(words[at], 0xEE, WORDS * sizeof *words[at]);
     }
     wide = wide_memory + shift;
     memset(wide, 0xEE, WIDE * sizeof *wide);
     figures = figure_memory + shift;
-    memset(figures, 0xEE, SECONDCOOP_PLAN_FIGURES * sizeof *figures);
+    memset(figures, 0xEE, SECONDCOOP_EXPLAIN_FIGURES * sizeof *figures);
 }
 
 /* A ring of places with lanes over one place, as plan bytes in `bytes[0]`. */
@@ -83,16 +83,22 @@ static void houses(void)
     figures[1] = secondcoop_load_house(words[0], 3, words[3], words[4]);
 }
 
-/* A call with a schedule of so many factors and a house of so many. */
-static void plan_on(size_t schedule_length, size_t house_length)
+/* An anchor table, a guide sheet, a schedule and a house. */
+static void fill_tables(void)
 {
-    const size_t length = plan_bytes();
     for (uint32_t at = 0; at < PLACES; at++) {
         words[0][at] = 0;
         words[1][at] = at * 7919 % 13;
     }
     words[2][0] = 300, words[2][1] = 200, words[2][2] = 100, words[2][3] = 100;
     words[2][4] = 400, words[2][5] = 150, words[2][6] = 400, words[2][7] = 100;
+}
+
+/* A call with a schedule of so many factors and a house of so many. */
+static void plan_on(size_t schedule_length, size_t house_length)
+{
+    const size_t length = plan_bytes();
+    fill_tables();
     /* The lanes of class 0 lead from a place to itself. */
     secondcoop_plan(bytes[0], length, 0, PLACES - 1, SECONDCOOP_CLASS(0), words[0], PLACES,
                     words[1], PLACES, 1, words[2], schedule_length,
@@ -111,27 +117,41 @@ static void house_call(void)
     plan_on(0, 4);
 }
 
+/* No route: the lanes of class 1 lead from a place to the next. */
+static void explain_call(void)
+{
+    const size_t length = plan_bytes();
+    fill_tables();
+    secondcoop_explain(bytes[0], length, 3, PLACES - 1, SECONDCOOP_CLASS(1), words[0], PLACES,
+                       words[1], PLACES, 1, words[2], 4, words[2] + 4, 4, 1000,
+                       words[3], PLACES, words[4], 40,
+                       words[5], SECONDCOOP_WORK_WORDS(PLACES, LANES),
+                       wide, SECONDCOOP_WIDE_NUMBERS(PLACES),
+                       words[6], PLACES, words[7], LANES, figures);
+}
+
 static void bench_text(void)
 {
     static const uint8_t job[] = {18, 4, 4, 0, 1, 1, 0, 0, 2, 4, 0, 1, 2, 2, 0, 1, 3, 3, 0,
                                   0, 3, 0, 100, 0, 0, 0, 0, 0, 0};
     memcpy(bytes[0], job, sizeof job);
     figures[0] = secondcoop_bench_text(bytes[0], sizeof job, bytes[1], BYTES);
+    figures[1] = secondcoop_explain_text(bytes[0], sizeof job, bytes[2], BYTES);
 }
 
 /* All memory of a call. */
 struct memory {
     uint8_t bytes[3][BYTES];
-    uint32_t words[6][WORDS];
+    uint32_t words[8][WORDS];
     uint64_t wide[WIDE];
-    uint64_t figures[SECONDCOOP_PLAN_FIGURES];
+    uint64_t figures[SECONDCOOP_EXPLAIN_FIGURES];
 };
 
 static void keep(struct memory *memory)
 {
     for (int at = 0; at < 3; at++)
         memcpy(memory->bytes[at], bytes[at], BYTES);
-    for (int at = 0; at < 6; at++)
+    for (int at = 0; at < 8; at++)
         memcpy(memory->words[at], words[at], sizeof memory->words[at]);
     memcpy(memory->wide, wide, sizeof memory->wide);
     memcpy(memory->figures, figures, sizeof memory->figures);
@@ -145,7 +165,7 @@ int main(void)
     } functions[] = {
         {"numbers", numbers},     {"read_plan", read_plan},   {"write_plan", write_plan},
         {"houses", houses},       {"plan", plan_call},        {"plan on a house", house_call},
-        {"bench_text", bench_text},
+        {"explain", explain_call}, {"bench_text and explain_text", bench_text},
     };
     static struct memory first, other;
     int wrong = 0;
@@ -166,5 +186,9 @@ int main(void)
     plan_call();
     wrong += figures[SECONDCOOP_PLAN_BOUND] != 10000;
     house_call();
-    return wrong + (figures[SECONDCOOP_PLAN_BOUND] != 40000);
+    wrong += figures[SECONDCOOP_PLAN_BOUND] != 40000;
+    /* Nor is that of the explanation: place 3 and lane 7, which leaves it. */
+    explain_call();
+    wrong += figures[SECONDCOOP_EXPLAIN_PLACES] != 1 || words[6][0] != 3;
+    return wrong + (figures[SECONDCOOP_EXPLAIN_LANES] != 1 || words[7][0] != 7);
 }

@@ -235,6 +235,51 @@ static void barred(void)
     wrong += figures[SECONDCOOP_PLAN_REFUSAL] != SECONDCOOP_BAD_ENDS_OR_BARRED;
 }
 
+/* The same lanes: what is listed where there is no route, and that nothing is
+ * on a route, unfinished or a refusal. */
+static void explanations(void)
+{
+    static const uint8_t plan[] = {3, 3, 0, 1, 1, 1, 0, 2, 9, 0, 1, 2, 1, 2};
+    static const uint32_t anchor[3] = {0, 0, 0};
+    static const struct {
+        uint32_t barred, budget;
+        size_t places_length, lanes_length;
+        uint64_t ending, refusal, listed[2];
+        uint32_t places[3], lanes[3];
+    } calls[] = {
+        {SECONDCOOP_MAX_BARRED, 9, 3, 3, SECONDCOOP_NO_ROUTE, 0, {1, 2}, {0, 7, 7}, {0, 1, 7}},
+        {SECONDCOOP_CLASS(0) | SECONDCOOP_CLASS(2), 2, 3, 3, SECONDCOOP_NO_ROUTE, 0, {2, 2},
+         {0, 1, 7}, {1, 2, 7}},
+        {SECONDCOOP_CLASS(0) | SECONDCOOP_CLASS(2), 1, 3, 3, SECONDCOOP_UNFINISHED, 0, {0, 0},
+         {7, 7, 7}, {7, 7, 7}},
+        {SECONDCOOP_CLASS(1), 9, 3, 3, SECONDCOOP_ROUTE, 0, {0, 0}, {7, 7, 7}, {7, 7, 7}},
+        {SECONDCOOP_MAX_BARRED + 1, 9, 2, 2, SECONDCOOP_REFUSED, SECONDCOOP_BAD_ENDS_OR_BARRED,
+         {0, 0}, {7, 7, 7}, {7, 7, 7}},
+        {SECONDCOOP_MAX_BARRED, 9, 2, 3, SECONDCOOP_REFUSED, SECONDCOOP_SHORT_MEMORY, {0, 0},
+         {7, 7, 7}, {7, 7, 7}},
+        {SECONDCOOP_MAX_BARRED, 9, 3, 2, SECONDCOOP_REFUSED, SECONDCOOP_SHORT_MEMORY, {0, 0},
+         {7, 7, 7}, {7, 7, 7}},
+    };
+    uint32_t route[3], log[1], work[SECONDCOOP_WORK_WORDS(3, 3)];
+    uint64_t wide[SECONDCOOP_WIDE_NUMBERS(3)], figures[SECONDCOOP_EXPLAIN_FIGURES];
+    for (size_t at = 0; at < sizeof calls / sizeof *calls; at++) {
+        uint32_t places[SECONDCOOP_PLACES_WORDS(3)] = {7, 7, 7};
+        uint32_t lanes[SECONDCOOP_LANES_WORDS(3)] = {7, 7, 7};
+        secondcoop_explain(plan, sizeof plan, 0, 2, calls[at].barred, anchor, 3, anchor, 0, 0,
+                           anchor, 0, house, house_count, calls[at].budget, route, 3, log, 1,
+                           work, sizeof work / sizeof work[0],
+                           wide, sizeof wide / sizeof wide[0],
+                           places, calls[at].places_length, lanes, calls[at].lanes_length,
+                           figures);
+        wrong += figures[SECONDCOOP_PLAN_ENDING] != calls[at].ending;
+        wrong += figures[SECONDCOOP_PLAN_REFUSAL] != calls[at].refusal;
+        wrong += figures[SECONDCOOP_EXPLAIN_PLACES] != calls[at].listed[0];
+        wrong += figures[SECONDCOOP_EXPLAIN_LANES] != calls[at].listed[1];
+        wrong += memcmp(places, calls[at].places, sizeof places) != 0;
+        wrong += memcmp(lanes, calls[at].lanes, sizeof lanes) != 0;
+    }
+}
+
 static void text(void)
 {
     static const uint8_t job[] = {2, 2, 0, 0, 1, 0, 1, 0, 0, 0, 0};
@@ -252,6 +297,21 @@ static void text(void)
         wrong++;
 }
 
+/* A job with a lane from place 0 to 1, of class 6, which is barred. */
+static void lines(void)
+{
+    static const uint8_t job[] = {6, 2, 1, 0, 1, 5, 6, 0, 1, 64, 9, 0, 0, 0, 0};
+    static const char printed[] = "no route turns 1\nreach 0\n"
+                                  "barred lane 0 tail 0 head 1 cost 5 class 6\n";
+    uint8_t lent[128];
+    memset(lent, 0xEE, sizeof lent);
+    const size_t length = strlen(printed);
+    wrong += secondcoop_explain_text(job, sizeof job, lent, 9) != length;
+    wrong += memcmp(lent, printed, 9) != 0 || lent[9] != 0xEE;
+    wrong += secondcoop_explain_text(job, sizeof job, lent, sizeof lent) != length;
+    wrong += memcmp(lent, printed, length) != 0 || lent[length] != 0xEE;
+}
+
 /* Sizes, also within other expressions. */
 _Static_assert(SECONDCOOP_PLAN_BYTES(0) == 5 && SECONDCOOP_PLAN_BYTES(1) == 14, "plan bytes");
 _Static_assert(2 * SECONDCOOP_PLAN_BYTES(2 + 2) == 82, "plan bytes");
@@ -262,6 +322,10 @@ _Static_assert(SECONDCOOP_WORK_WORDS(1, 0) == 4, "work words");
 _Static_assert(SECONDCOOP_WORK_WORDS(4096, 32768) == 110593, "work words");
 _Static_assert(2 * SECONDCOOP_WIDE_NUMBERS(2 + 2) == 16, "wide numbers");
 _Static_assert(SECONDCOOP_WIDE_NUMBERS(4096) == 8192, "wide numbers");
+_Static_assert(2 * SECONDCOOP_PLACES_WORDS(2 + 2) == 8, "places words");
+_Static_assert(2 * SECONDCOOP_LANES_WORDS(2 + 3) == 10, "lanes words");
+_Static_assert(SECONDCOOP_EXPLAIN_FIGURES == SECONDCOOP_PLAN_FIGURES + 2, "figures");
+_Static_assert(SECONDCOOP_EXPLAIN_PLACES == SECONDCOOP_PLAN_FIGURES, "figures");
 _Static_assert(SECONDCOOP_HOUSE_NUMBERS == 2 * SECONDCOOP_MAX_ROUNDS, "house numbers");
 _Static_assert(SECONDCOOP_UNREACHED == UINT64_MAX, "not reached");
 _Static_assert(SECONDCOOP_NO_OPINION == UINT32_MAX, "no opinion");
@@ -355,7 +419,9 @@ int main(void)
     planner();
     opinions();
     barred();
+    explanations();
     text();
+    lines();
     plan_refusals();
     call_refusals();
     return wrong;

@@ -37,6 +37,16 @@ int main()
                     wide, sizeof wide / sizeof wide[0], figures);
     wrong += figures[SECONDCOOP_PLAN_ENDING] != SECONDCOOP_ROUTE;
     wrong += figures[SECONDCOOP_PLAN_COST] != 5 || wide[3] != SECONDCOOP_UNREACHED;
+    uint32_t places[SECONDCOOP_PLACES_WORDS(3)], lanes[SECONDCOOP_LANES_WORDS(1)];
+    uint64_t explained[SECONDCOOP_EXPLAIN_FIGURES];
+    secondcoop_explain(plan, sizeof plan, 0, 2, SECONDCOOP_CLASS(7), anchor, 3, anchor, 0, 0,
+                       anchor, 0, house, count, allowance, route, 3, log, 1,
+                       work, sizeof work / sizeof work[0], wide, sizeof wide / sizeof wide[0],
+                       places, 3, lanes, 1, explained);
+    wrong += explained[SECONDCOOP_PLAN_ENDING] != SECONDCOOP_NO_ROUTE;
+    wrong += explained[SECONDCOOP_EXPLAIN_PLACES] != 1 || places[0] != 0;
+    wrong += explained[SECONDCOOP_EXPLAIN_LANES] != 1 || lanes[0] != 0;
     wrong += secondcoop_bench_text(job, sizeof job, out, sizeof out) != 40;
+    wrong += secondcoop_explain_text(job, sizeof job, out, sizeof out) != 25;
     return wrong;
 }

@@ -1,7 +1,8 @@
 /*
- * What a refusal leaves untouched is not written at all: rejected sheets and
- * refused planner calls run with memory that cannot be written. Prints what is
- * wrong; the exit status is 0 if nothing is.
+ * What a call leaves untouched is not written at all: rejected sheets and
+ * refused calls run with memory that cannot be written, and explanations that
+ * list nothing with such lists. Prints what is wrong; the exit status is 0 if
+ * nothing is.
  */
 #define _DEFAULT_SOURCE
 #include <inttypes.h>
@@ -47,11 +48,11 @@ static void rejected_sheets(uint32_t *house)
              sheets[i].name);
 }
 
+static const uint8_t plan[] = {PLACES, LANES, 0, 1, 1, 0, 0, 2, 4, 0, 1, 2, 2, 0, 1, 3, 3, 0};
+
 /* Job A, with what one refusal asks for changed; all lent memory at `lent`. */
 static void refused_call(uint64_t *lent, uint32_t number)
 {
-    static const uint8_t plan[] = {PLACES, LANES, 0, 1, 1, 0, 0, 2, 4, 0,
-                                   1, 2, 2, 0, 1, 3, 3, 0};
     static const uint32_t anchors[][PLACES] = {{6, 5, 3, 0}, {6, 5, 3, 1}, {7, 5, 3, 0}};
     static const uint32_t guide[PLACES] = {0, 9, 0, 0};
     static const uint32_t schedule[] = {200, 200, 100, 100}, house[] = {200, 200, 100};
@@ -69,6 +70,39 @@ static void refused_call(uint64_t *lent, uint32_t number)
     must(figures[SECONDCOOP_PLAN_REFUSAL] == number, name);
 }
 
+/* Job A's explanation, its lists at `lists` and all other memory at `lent`. */
+static void explanation(uint32_t *lists, uint64_t *lent, size_t places, size_t lanes,
+                        uint32_t allowance, uint64_t ending, uint64_t refusal, const char *name)
+{
+    static const uint32_t anchor[PLACES] = {6, 5, 3, 0}, schedule[] = {200, 200, 100, 100};
+    uint32_t *words = (uint32_t *)lent;
+    uint64_t figures[SECONDCOOP_EXPLAIN_FIGURES];
+    secondcoop_explain(plan, sizeof plan, 0, 3, 0, anchor, PLACES, anchor, 0, 0, schedule, 4,
+                       schedule, 4, allowance, words, PLACES, words + 16, 16, words + 64,
+                       SECONDCOOP_WORK_WORDS(PLACES, LANES), lent + 1024,
+                       SECONDCOOP_WIDE_NUMBERS(PLACES), lists, places, lists + 64, lanes,
+                       figures);
+    must(figures[SECONDCOOP_PLAN_ENDING] == ending, name);
+    must(figures[SECONDCOOP_PLAN_REFUSAL] == refusal, name);
+    must(figures[SECONDCOOP_EXPLAIN_PLACES] == 0 && figures[SECONDCOOP_EXPLAIN_LANES] == 0, name);
+}
+
+/* A route and unfinished write no list; refusal 11 for a list writes nothing. */
+static void explanations(uint64_t *read_only)
+{
+    uint64_t *lent = memory(PROT_READ | PROT_WRITE);
+    uint32_t *lists = (uint32_t *)read_only;
+    must(lent != NULL, "memory");
+    if (lent == NULL)
+        return;
+    explanation(lists, lent, PLACES, LANES, 100, SECONDCOOP_ROUTE, 0, "a route");
+    explanation(lists, lent, PLACES, LANES, 1, SECONDCOOP_UNFINISHED, 0, "unfinished");
+    explanation(lists + 128, read_only, PLACES - 1, LANES, 100, SECONDCOOP_REFUSED, 11,
+                "a short list of places");
+    explanation(lists + 128, read_only, PLACES, LANES - 1, 100, SECONDCOOP_REFUSED, 11,
+                "a short list of lanes");
+}
+
 int main(void)
 {
     static const uint32_t numbers[] = {1, 8, 9, 10, 11, 12, 13}, good[] = {300, 200};
@@ -79,6 +113,7 @@ int main(void)
     rejected_sheets((uint32_t *)read_only);
     for (size_t i = 0; i < sizeof numbers / sizeof *numbers; i++)
         refused_call(read_only, numbers[i]);
+    explanations(read_only);
     must(secondcoop_load_house(good, 2, house, house + SECONDCOOP_HOUSE_NUMBERS) == 0
              && house[0] == 300 && house[1] == 200 && house[SECONDCOOP_HOUSE_NUMBERS] == 2,
          "a good sheet");

@@ -53,7 +53,8 @@ static uint32_t tables[9 * PLACES], schedule[2 * SECONDCOOP_MAX_ROUNDS];
 static uint32_t route[PLACES];
 static uint32_t log_words[SECONDCOOP_TURNS(PLACES, SECONDCOOP_MAX_ROUNDS)];
 static uint32_t work[SECONDCOOP_WORK_WORDS(PLACES, LANES)];
-static uint64_t wide[SECONDCOOP_WIDE_NUMBERS(PLACES)], figures[SECONDCOOP_PLAN_FIGURES];
+static uint64_t wide[SECONDCOOP_WIDE_NUMBERS(PLACES)], figures[SECONDCOOP_EXPLAIN_FIGURES];
+static uint32_t places[SECONDCOOP_PLACES_WORDS(PLACES)], lanes[SECONDCOOP_LANES_WORDS(LANES)];
 static uint8_t text[SECONDCOOP_MAX_TEXT];
 
 static void fill(void)
@@ -148,19 +149,21 @@ static void load_house(int variant)
  * the bytes are those of a plan without lanes; unfinished at once and after
  * some turns; refusals 1, 8, 9, 10, 11, 12, 13; a route with one class barred,
  * and no route with all; refusal 11 for each kind of work memory; a route on a
- * house of sixteen rounds, and refusal 10 for a house. */
-enum { PLAN_CALLS = 18 };
+ * house of sixteen rounds, and refusal 10 for a house. In an explanation also
+ * refusal 11 for each list. */
+enum { PLAN_CALLS = 18, EXPLAIN_CALLS = 20 };
 
-static void plan_call(int variant)
+/* A planner call, or one that explains. */
+static void either_call(int variant, int explains)
 {
     static const uint8_t no_lanes[] = {0x80, 0x20, 0};
-    static const uint32_t endings[PLAN_CALLS] = {
+    static const uint32_t endings[EXPLAIN_CALLS] = {
         SECONDCOOP_ROUTE, SECONDCOOP_ROUTE, SECONDCOOP_NO_ROUTE,
         SECONDCOOP_UNFINISHED, SECONDCOOP_UNFINISHED, SECONDCOOP_REFUSED,
         SECONDCOOP_REFUSED, SECONDCOOP_REFUSED, SECONDCOOP_REFUSED,
         SECONDCOOP_REFUSED, SECONDCOOP_REFUSED, SECONDCOOP_REFUSED,
         SECONDCOOP_ROUTE, SECONDCOOP_NO_ROUTE, SECONDCOOP_REFUSED, SECONDCOOP_REFUSED,
-        SECONDCOOP_ROUTE, SECONDCOOP_REFUSED};
+        SECONDCOOP_ROUTE, SECONDCOOP_REFUSED, SECONDCOOP_REFUSED, SECONDCOOP_REFUSED};
     const uint32_t goal = variant == 1 ? 0 : variant == 6 ? PLACES : PLACES - 1;
     const uint32_t barred = variant == 12   ? SECONDCOOP_CLASS(5)
                             : variant == 13 ? SECONDCOOP_MAX_BARRED
@@ -169,29 +172,50 @@ static void plan_call(int variant)
     tables[0] = variant == 11 ? UINT32_MAX : 0;
     tables[PLACES - 1] = variant == 10 ? 1 : 0;
     schedule[0] = variant == 8 ? 0 : SECONDCOOP_MAX_FACTOR;
-    secondcoop_plan(variant == 2 ? no_lanes : plan,
-                    variant == 2 ? sizeof no_lanes : plan_length - (variant == 5 ? 1 : 0),
-                    0, goal, barred, tables, PLACES, tables + PLACES, 8 * PLACES,
-                    variant == 7 ? 9 : 8, schedule, variant < 16 ? 2 * SECONDCOOP_MAX_ROUNDS : 0,
-                    house, house_count - (variant == 17 ? 1 : 0), budget,
-                    route, PLACES - (variant == 9 ? 1 : 0),
-                    log_words, sizeof log_words / sizeof *log_words,
-                    work, sizeof work / sizeof *work - (variant == 14 ? 1 : 0),
-                    wide, sizeof wide / sizeof *wide - (variant == 15 ? 1 : 0), figures);
+#define ARGUMENTS \
+    variant == 2 ? no_lanes : plan, \
+    variant == 2 ? sizeof no_lanes : plan_length - (variant == 5 ? 1 : 0), \
+    0, goal, barred, tables, PLACES, tables + PLACES, 8 * PLACES, \
+    variant == 7 ? 9 : 8, schedule, \
+    variant == 16 || variant == 17 ? 0 : 2 * SECONDCOOP_MAX_ROUNDS, \
+    house, house_count - (variant == 17 ? 1 : 0), budget, \
+    route, PLACES - (variant == 9 ? 1 : 0), \
+    log_words, sizeof log_words / sizeof *log_words, \
+    work, sizeof work / sizeof *work - (variant == 14 ? 1 : 0), \
+    wide, sizeof wide / sizeof *wide - (variant == 15 ? 1 : 0)
+    if (explains)
+        secondcoop_explain(ARGUMENTS, places, PLACES - (variant == 18 ? 1 : 0),
+                           lanes, LANES - (variant == 19 ? 1 : 0), figures);
+    else
+        secondcoop_plan(ARGUMENTS, figures);
     expect(figures[SECONDCOOP_PLAN_ENDING], endings[variant]);
     if (variant < 2 || variant == 16)
         expect(figures[SECONDCOOP_PLAN_ROUNDS], SECONDCOOP_MAX_ROUNDS);
+    if (explains && variant == 13)
+        expect(figures[SECONDCOOP_EXPLAIN_LANES], 7);
+}
+
+static void plan_call(int variant)
+{
+    either_call(variant, 0);
+}
+
+static void explain_call(int variant)
+{
+    either_call(variant, 1);
 }
 
 /* Job A's floor with sixteen rounds: a route, sixteen rounds that finish at
- * once, unfinished, refused in the job, in the plan, in its call. */
-enum { TEXTS = 6 };
+ * once, unfinished, refused in the job, in the plan, in its call; no route, as
+ * all lanes are barred. */
+enum { TEXTS = 7 };
 
-static void bench_text(int variant)
+static void either_text(int variant, int explains)
 {
     static const char *const ends[TEXTS] = {"bound 10000\n", "bound 10000\n", "turns 1\n",
                                             "refused 14 at 0\n", "refused 4 at 3\n",
-                                            "refused 8 at 0\n"};
+                                            "refused 8 at 0\n", "no route turns 1\n"};
+    static const char last[] = "barred lane 1 tail 0 head 2 cost 4 class 0\n";
     uint8_t job[] = {18, 4, 4, 0, 1, 1, 0, 0, 2, 4, 0, 1, 2, 2, 0, 1, 3, 3, 0,
                      0, 3, 0, 100, 16,
                      100, 100, 100, 100, 100, 100, 100, 100, 100, 100, 100, 100,
@@ -206,10 +230,23 @@ static void bench_text(int variant)
         job[4] = 4;
     if (variant == 5)
         job[19] = 4;
-    const size_t length =
-        secondcoop_bench_text(job, sizeof job - (variant == 3 ? 1 : 0), text, sizeof text);
-    const size_t end = strlen(ends[variant]);
-    surprises += length < end || memcmp(text + length - end, ends[variant], end) != 0;
+    if (variant == 6)
+        job[21] = 1;
+    const char *const wanted = explains && variant == 6 ? last : ends[variant];
+    const size_t bytes = sizeof job - (variant == 3 ? 1 : 0), end = strlen(wanted);
+    const size_t length = explains ? secondcoop_explain_text(job, bytes, text, sizeof text)
+                                   : secondcoop_bench_text(job, bytes, text, sizeof text);
+    surprises += length < end || memcmp(text + length - end, wanted, end) != 0;
+}
+
+static void bench_text(int variant)
+{
+    either_text(variant, 0);
+}
+
+static void explain_text(int variant)
+{
+    either_text(variant, 1);
 }
 
 int main(int count, char **arguments)
@@ -230,7 +267,9 @@ int main(int count, char **arguments)
         {"standard_house", standard_house, 1, SECONDCOOP_STACK},
         {"load_house", load_house, 3, SECONDCOOP_HOUSE_STACK},
         {"plan", plan_call, PLAN_CALLS, SECONDCOOP_PLAN_STACK},
+        {"explain", explain_call, EXPLAIN_CALLS, SECONDCOOP_PLAN_STACK},
         {"bench_text", bench_text, TEXTS, SECONDCOOP_TEXT_STACK},
+        {"explain_text", explain_text, TEXTS, SECONDCOOP_TEXT_STACK},
     };
     int deeper = 0;
     fill();
