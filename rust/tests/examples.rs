@@ -1,11 +1,14 @@
 //! The files in `examples`: each text form gives the bytes beside it, but for
 //! one with a sheet for the default schedule, and the library and the second
-//! planner print the text beside them.
+//! planner print the text beside them, and the explanation where there is one.
 
 use std::fs;
 use std::path::{Path, PathBuf};
 use std::process::Command;
 
+use secondcoop_tests::explainers;
+use secondcoop_tests::explanation::Reason;
+use secondcoop_tests::generate::Plan;
 use secondcoop_tests::lead;
 use secondcoop_tests::planners::{self, printed, Library, Planner, SecondPlanner};
 use secondcoop_tests::refusals::{remarks, Taker};
@@ -68,13 +71,17 @@ fn all_are_there() {
         "no-opinion",
         "no-way-through",
         "silly-guide",
+        "only-ramp",
     ];
     wanted.extend(floors.map(String::from));
     wanted.sort();
     assert_eq!(names(), wanted);
     let read_me = read_text("README", "md");
     assert_eq!(names_without_bytes(), ["cold-store"]);
-    for name in floors.into_iter().chain(["cold-store", "cold_store.c"]) {
+    assert_eq!(names_of(".explain"), ["only-ramp"]);
+    assert_eq!(names_of(".lines"), names_of(".explain"));
+    let others = ["cold-store", "cold_store.c", "explain.c"];
+    for name in floors.into_iter().chain(others) {
         assert!(read_me.contains(&format!("`{name}`")), "{name}");
     }
 }
@@ -200,6 +207,56 @@ fn a_cold_store_is_planned_on_its_own_default_schedule() {
     let rounds = route(&ours).replace("rounds 6 turns 21", "rounds 9 turns 15");
     assert_eq!(route(&expected), rounds);
     assert_ne!(turn_of(&expected, 5), turn_of(&ours, 5));
+}
+
+/// The example's explanation in plain words and in lines, through the tool on
+/// each form, and its lines by both explainers.
+#[test]
+fn the_only_ramp_is_named() {
+    for name in names_of(".explain") {
+        let (bytes, lines) = (read(&name, "job"), read_text(&name, "lines"));
+        assert_eq!(explainers::printed(&Library, &bytes), lines);
+        assert_eq!(explainers::printed(&SecondPlanner, &bytes), lines);
+        for form in ["txt", "job"] {
+            let path = examples().join(format!("{name}.{form}"));
+            assert_eq!(job("explain", &path), (false, read(&name, "explain")));
+            let mut tool = Command::new(env!("CARGO_BIN_EXE_job"));
+            let tool = tool.args(["explain", "--lines"]).arg(path);
+            assert_eq!(
+                tool.output().expect("the tool runs").stdout,
+                lines.as_bytes()
+            );
+        }
+    }
+}
+
+/// Of the example's barred lanes one leaves what can be reached: the others
+/// stay inside it, lead back into it or begin beyond it. Opened, their class
+/// leads to the goal.
+#[test]
+fn the_only_ramp_is_the_only_one() {
+    let text = read_text("only-ramp", "txt");
+    let job = TextJob::parse(&text).expect("a text form");
+    let explained = run::explained(&Library, &job).expect("an explanation");
+    let Reason { places, lanes } = explained.reason;
+    let plan = Plan::of_bytes(&explained.job.bytes);
+    let within = |vertex: u32| places.contains(&vertex);
+    let kinds: Vec<[bool; 2]> = (0..plan.edges())
+        .filter(|&edge| plan.classes[edge] == 1)
+        .map(|edge| [within(plan.tails[edge]), within(plan.heads[edge])])
+        .collect();
+    for (kind, count) in [
+        ([true, true], 1),
+        ([true, false], lanes.len()),
+        ([false, true], 1),
+        ([false, false], 1),
+    ] {
+        assert_eq!(kinds.iter().filter(|&&other| other == kind).count(), count);
+    }
+    assert_eq!(lanes, [10]);
+    let open = text.replace("barred 2", "barred 0");
+    let open = TextJob::parse(&open).expect("a text form");
+    assert!(run::explained_lines(&Library, &open).starts_with("route 0 1 3 4 5 6 7 8\n"));
 }
 
 /// The bench program's own job is job A.

@@ -8,7 +8,10 @@ use std::fs;
 use std::path::Path;
 use std::thread;
 
-use secondcoop_tests::bench_text::MOST_BENCH_VERTICES;
+use secondcoop_tests::bench_text::{MOST_BENCH_EDGES, MOST_BENCH_VERTICES};
+use secondcoop_tests::cut_off::cut_off_jobs;
+use secondcoop_tests::explainers::{self, Question};
+use secondcoop_tests::explanation;
 use secondcoop_tests::ffi;
 use secondcoop_tests::generate;
 use secondcoop_tests::guarded::GUARD;
@@ -62,6 +65,12 @@ fn numbers_are_those_of_the_second_planner() {
         ("UNREACHED", planner::UNREACHED),
         ("FIGURES", ffi::Figures::default().len() as u64),
         ("PLAN_FIGURES", planner::Figures::default().len() as u64),
+        (
+            "EXPLAIN_FIGURES",
+            explanation::Figures::default().len() as u64,
+        ),
+        ("EXPLAIN_PLACES", 8),
+        ("EXPLAIN_LANES", 9),
         ("ROUTE", 0),
         ("NO_ROUTE", 1),
         ("UNFINISHED", 2),
@@ -298,8 +307,9 @@ fn a_table_of_zeros_passes() {
 fn several_threads_may_call() {
     let mut shared: Vec<Job> = Vec::new();
     jobs::valid_jobs(54, 300, &mut |_, job| shared.push(job.clone()));
+    cut_off_jobs(55, 100, &mut |_, job| shared.push(job.clone()));
     // Every function: numbers, the plan read and written, the default schedule,
-    // the call, the text.
+    // the call, the text, and the call and the text that explain.
     let all = |job: &Job| {
         let numbers = [
             ffi::read_plan_number(&job.bytes, 1),
@@ -319,8 +329,11 @@ fn several_threads_may_call() {
         let loaded = ffi::load_default_schedule(&job.default_schedule, &mut default, &mut count);
         let default = (loaded, default, count);
         let outcome = planners::run(&Library, job, 0);
+        let explained = explainers::run(&Library, &Question::of(job), 0);
+        let lines = explainers::printed(&Library, &job.bench_bytes());
         let figures = [read, written, number];
-        (numbers, lists, figures, text, default, outcome)
+        let calls = (outcome, explained);
+        (numbers, lists, figures, text, lines, default, calls)
     };
     let alone: Vec<_> = shared.iter().map(all).collect();
     thread::scope(|scope| {
@@ -350,4 +363,15 @@ fn the_bytes_of_a_text_are_the_proved_ones() {
     assert_eq!(log * 35 + (6 + MOST_BENCH_VERTICES * 11) + 112, longest);
     let program = read("crates/bench/src/main.rt");
     assert!(program.contains(&format!("const TEXT: usize = {longest};\n")));
+}
+
+/// They are enough for the lines of an explanation too, the longest of which
+/// have all lanes of a bench job.
+#[test]
+fn the_bytes_of_a_text_are_enough_for_lines() {
+    let longest = numbers()["MAX_TEXT"] as usize;
+    let lane = "barred lane 2047 tail 255 head 255 cost 16000000 class 7\n".len();
+    let places = "reach\n".len() + MOST_BENCH_VERTICES * " 255".len();
+    let turns = "no route turns 4294967295\n".len();
+    assert!(turns + places + MOST_BENCH_EDGES * lane <= longest);
 }

@@ -240,7 +240,7 @@ fn all_exported() -> Functions {
 #[test]
 fn three_places_say_the_same() {
     let exported = all_exported();
-    assert_eq!(exported.len(), 10);
+    assert_eq!(exported.len(), 12);
     let header = declared_in_c(&read("include/secondcoop.h"));
     assert_eq!(differences(&exported, &header), Vec::<String>::new());
     let rust = declared_in_rust(&read("rust/src/ffi.rs"));
@@ -328,6 +328,39 @@ fn a_change_at_the_house_is_found() {
     all_found(exported, &read("crates/ffi_planner/src/lib.rt"), &exports);
 }
 
+/// Both functions that explain, in all three.
+#[test]
+fn a_change_at_the_explanation_is_found() {
+    let header = [
+        (
+            "uint32_t *places, size_t places_length,",
+            "uint32_t *places,",
+        ),
+        ("uint32_t *places,", "const uint32_t *places,"),
+        (
+            "uint32_t *lanes, size_t lanes_length",
+            "size_t lanes_length, uint32_t *lanes",
+        ),
+        (
+            "size_t secondcoop_explain_text",
+            "void secondcoop_explain_text",
+        ),
+        ("void secondcoop_explain(", "void secondcoop_explains("),
+    ];
+    all_found(declared_in_c, &read("include/secondcoop.h"), &header);
+    let declarations = [
+        ("places: *mut u32", "places: *const u32"),
+        ("        lanes_length: usize,\n", ""),
+        ("fn secondcoop_explain(", "fn secondcoop_explains("),
+    ];
+    all_found(declared_in_rust, &read("rust/src/ffi.rs"), &declarations);
+    let exports = [
+        ("places: &mut [u32]", "places: &[u32]"),
+        ("lanes: &mut [u32]", "lanes: &mut [u64]"),
+    ];
+    all_found(exported, &read("crates/ffi_planner/src/lib.rt"), &exports);
+}
+
 #[test]
 fn a_change_in_the_rust_declarations_is_found() {
     let source = read("rust/src/ffi.rs");
@@ -385,19 +418,30 @@ fn symbols(archive: &str) -> Vec<(char, String)> {
 #[test]
 fn figures_are_as_many_as_the_header_says() {
     let header = read("include/secondcoop.h");
-    for (name, macro_name, functions) in [
-        ("ffi_numbers", "SECONDCOOP_FIGURES", 3),
-        ("ffi_plans", "SECONDCOOP_FIGURES", 3),
-        ("ffi_planner", "SECONDCOOP_PLAN_FIGURES", 1),
-    ] {
+    let number = |macro_name: &str| {
         let line = format!("#define {macro_name} ");
-        let count = header
-            .split_once(&line)
-            .and_then(|(_, text)| text.split('\n').next());
+        let text = header.split_once(&line).map(|(_, text)| text);
+        let number = text.and_then(|text| text.lines().next());
+        number.expect("a macro").to_string()
+    };
+    for (name, counts) in [
+        ("ffi_numbers", &[("SECONDCOOP_FIGURES", 3)][..]),
+        ("ffi_plans", &[("SECONDCOOP_FIGURES", 3)]),
+        (
+            "ffi_planner",
+            &[
+                ("SECONDCOOP_PLAN_FIGURES", 1),
+                ("SECONDCOOP_EXPLAIN_FIGURES", 1),
+            ],
+        ),
+    ] {
         let source = read(&format!("crates/{name}/src/lib.rt"));
-        let figures = format!("figures: &mut [u64; {}]", count.expect("a macro"));
-        assert_eq!(source.matches(&figures).count(), functions, "{name}");
-        assert_eq!(source.matches("figures: ").count(), functions, "{name}");
+        for (macro_name, functions) in counts {
+            let figures = format!("figures: &mut [u64; {}]", number(macro_name));
+            assert_eq!(source.matches(&figures).count(), *functions, "{name}");
+        }
+        let all = counts.iter().map(|(_, functions)| functions).sum::<usize>();
+        assert_eq!(source.matches("figures: ").count(), all, "{name}");
     }
 }
 

@@ -84,9 +84,10 @@ fn the_line_of_the_wrong_length_is_blamed() {
     let text = with("job-a.txt", "anchor 6 5 3 0", "anchor 6 5 3");
     let words = "standard input: line 14: the anchor table has 3 numbers, and the plan has 4 \
                  places\n";
-    for command in ["check", "run", "print", "lead", "bytes"] {
+    for command in ["check", "run", "print", "lead", "explain", "bytes"] {
         assert_eq!(job(&[command], &text), left(4, "", words));
     }
+    assert_eq!(job(&["explain", "--lines"], &text), left(4, "", words));
 }
 
 #[test]
@@ -322,7 +323,7 @@ fn help_is_printed() {
         let left = job(arguments, "");
         assert_eq!((left.status, left.err.as_str()), (0, ""), "{arguments:?}");
         for command in [
-            "run", "check", "print", "lead", "bytes", "hex", "text", "describe",
+            "run", "check", "print", "lead", "explain", "bytes", "hex", "text", "describe",
         ] {
             assert!(left.out.contains(&format!(" job {command} ")), "{command}");
         }
@@ -342,6 +343,9 @@ fn help_is_printed() {
         &[][..],
         &["plan"],
         &["run", "a", "b"],
+        &["run", "--lines", "a"],
+        &["explain", "a", "b"],
+        &["explain", "--lines", "a", "b"],
         &["describe", "4", "5"],
     ] {
         let left = job(arguments, "");
@@ -358,12 +362,23 @@ fn standard_input_is_read() {
     for name in ["job-a", "wall", "no-route", "refusal-13"] {
         let path = example(&format!("{name}.txt"));
         let path = path.to_str().expect("a path");
-        for command in ["run", "check", "print", "lead", "bytes", "hex", "text"] {
+        for command in [
+            &["run"][..],
+            &["check"],
+            &["print"],
+            &["lead"],
+            &["explain"],
+            &["explain", "--lines"],
+            &["bytes"],
+            &["hex"],
+            &["text"],
+        ] {
             let program = env!("CARGO_BIN_EXE_job");
-            let of_file = output(program, &[command, path], b"");
+            let of_file = output(program, &[command, &[path]].concat(), b"");
             let text = fs::read(path).expect("an example");
-            assert_eq!(output(program, &[command, "-"], &text), of_file);
-            assert_eq!(output(program, &[command], &text), of_file);
+            let dash = output(program, &[command, &["-"]].concat(), &text);
+            assert_eq!(dash, of_file);
+            assert_eq!(output(program, command, &text), of_file);
         }
     }
     let path = example("plan-a.txt");
@@ -664,6 +679,87 @@ fn the_lead_of_other_endings() {
     assert!(help.contains("tested and not proved.\n"), "{help}");
 }
 
+/// No route: what can be reached, and what opening a class takes the tug past.
+#[test]
+fn no_route_is_explained() {
+    let ramp = job(&["explain"], read("only-ramp.txt"));
+    assert_eq!(ramp, left(1, &read("only-ramp.explain"), ""));
+    let lines = job(&["explain", "--lines"], read("only-ramp.txt"));
+    assert_eq!(lines, left(1, &read("only-ramp.lines"), ""));
+    // Two lanes, of two classes.
+    let all = with("ramp.txt", "barred 0", "barred 255");
+    let all = all.replace("lane 0 4 5 0", "lane 0 4 5 3");
+    let words = "there is no route from place 0 to place 3 over permitted lanes\n\
+                 from place 0 the tug can reach 1 of the 6 places: 0\n\
+                 2 barred lanes lead from these places to others:\n\
+                 open class 0 and the tug gets past lane 0 -> 1 (lane number 0, cost 2)\n\
+                 open class 3 and the tug gets past lane 0 -> 4 (lane number 1, cost 5)\n\
+                 whether it then comes to place 3 is not said here: run the job with that class \
+                 open\n";
+    assert_eq!(job(&["explain"], &all), left(1, words, ""));
+    let lines = "no route turns 1\nreach 0\nbarred lane 0 tail 0 head 1 cost 2 class 0\n\
+                 barred lane 1 tail 0 head 4 cost 5 class 3\n";
+    assert_eq!(job(&["explain", "--lines"], all), left(1, lines, ""));
+    // No lane leaves.
+    let words = "there is no route from place 0 to place 3 over permitted lanes\n\
+                 from place 0 the tug can reach 2 of the 4 places: 0 1\n\
+                 no lane at all, barred or not, leads from these places to others, so opening \
+                 classes does not help\n";
+    let none = read("no-route.txt");
+    assert_eq!(job(&["explain"], &none), left(1, words, ""));
+    let lines = "no route turns 2\nreach 0 1\n";
+    assert_eq!(job(&["explain", "--lines"], none), left(1, lines, ""));
+}
+
+/// A route, a cut and refusals have nothing to explain.
+#[test]
+fn the_explanation_of_other_endings() {
+    let explain = |text: &str| job(&["explain"], text);
+    let route = "there is a route, cost 7; nothing to explain\n";
+    assert_eq!(explain(&read("ramp.txt")), left(0, route, ""));
+    let lines = job(&["explain", "--lines"], read("ramp.txt"));
+    let printed = read("ramp.out");
+    let route = &printed[printed.find("route").expect("a route")..];
+    assert_eq!(lines, left(0, route, ""));
+    let cut = with("only-ramp.txt", "allowance 1000", "allowance 3");
+    let words = "unfinished after 3 turns: the allowance ended the first round, so nothing is \
+                 known; give it 20 turns, 2 for each of the 10 places, which are enough for that \
+                 round\n";
+    assert_eq!(explain(&cut), left(2, words, ""));
+    let lines = job(&["explain", "--lines"], &cut);
+    assert_eq!(lines, left(2, "unfinished turns 3\n", ""));
+    let enough = cut.replace("allowance 3", "allowance 20");
+    assert_eq!(explain(&enough), explain(&read("only-ramp.txt")));
+    for number in [1, 2, 3, 4, 5, 6, 7, 8, 10, 12, 13, 14, 15] {
+        let text = read(&format!("refusal-{number:02}.txt"));
+        let run = job(&["run"], &text);
+        assert_eq!((run.status, explain(&text)), (3, job(&["run"], &text)));
+        assert_eq!(job(&["explain", "--lines"], &text), run);
+    }
+    // What is proved, and what opening a class does not do, is told.
+    let help = job(&["--help"], "").out;
+    assert!(help.contains("The explanation is the proved library's. "));
+    assert!(
+        help.contains("past that lane and not yet to the goal"),
+        "{help}"
+    );
+}
+
+/// A job with the site's sheet, good or rejected, is explained on what is then
+/// in force.
+#[test]
+fn an_explanation_beside_a_sheet() {
+    let (text, explained) = (read("only-ramp.txt"), read("only-ramp.explain"));
+    let good = format!("{text}house 200 200\n");
+    assert_eq!(job(&["explain"], &good), left(1, &explained, ""));
+    let lines = job(&["explain", "--lines"], good);
+    assert_eq!(lines, left(1, &read("only-ramp.lines"), ""));
+    let bad = job(&["explain"], format!("{text}house 200 99\n"));
+    assert_eq!((bad.status, bad.out), (1, explained));
+    let rejected = "the sheet for the house schedule is rejected (refusal 10): ";
+    assert!(bad.err.contains(rejected), "{}", bad.err);
+}
+
 /// The cold store's job on a sheet that is rejected.
 fn on_a_bad_sheet() -> String {
     with("cold-store.txt", "house 150 150", "house 170 99")
@@ -832,6 +928,18 @@ fn jobs_beyond_the_bench_program_are_planned() {
         let shown = lines.filter(|(lead, turn)| lead.starts_with(&format!("{turn} round ")));
         assert_eq!(shown.count(), turns.count());
     }
+    // With all lanes barred the explanation is the call's.
+    large.barred = 255;
+    let barred = large.bench_bytes();
+    let lines = run::explained_lines(&SecondPlanner, &TextJob::of_bytes(&barred));
+    assert_eq!(job(&["explain", "--lines"], &barred), left(1, &lines, ""));
+    let named = job(&["explain"], &barred)
+        .out
+        .matches("open class ")
+        .count();
+    let from_start = plan.tails.iter().zip(&plan.heads);
+    let leaving = from_start.filter(|&(&tail, &head)| tail == 0 && head != 0);
+    assert_eq!(named, leaving.count());
     // Its refusals are those of the planner call.
     large.anchor[1] = 1;
     let goal = large.bench_bytes();
