@@ -2,7 +2,9 @@
 //! limits, the planner call beyond them, and what is said of a refusal.
 
 use secondcoop_tests::bench_text::{answer_text, MOST_BENCH_EDGES, MOST_BENCH_VERTICES};
+use secondcoop_tests::cut_off::cut_off_jobs;
 use secondcoop_tests::default_schedule::DefaultSchedule;
+use secondcoop_tests::explanation;
 use secondcoop_tests::generate;
 use secondcoop_tests::guarded::GUARD;
 use secondcoop_tests::input::Input;
@@ -103,6 +105,49 @@ fn the_planner_call_beyond_them() {
     }
     for kind in [planners::ROUTE, planners::NO_ROUTE, planners::UNFINISHED] {
         assert!(kinds[kind] > 10, "kind {kind}: {}", kinds[kind]);
+    }
+}
+
+/// The lines of an explanation are the library's own text within the limits,
+/// and beyond them those of what the call lists; both are the same where both
+/// can be had.
+#[test]
+fn explanations_within_the_limits_and_beyond() {
+    let mut kinds = [0; KINDS];
+    let mut random = Random::new(74);
+    let mut explain = |job: &TextJob| {
+        let printed = run::explained_lines(&Library, job);
+        assert_eq!(printed, run::explained_lines(&SecondPlanner, job), "{job}");
+        kinds[remarks_agree(job, Taker::of(job), &printed)] += 1;
+        printed
+    };
+    jobs::bench_jobs(75, 600, &mut |bytes, _| {
+        drop(explain(&TextJob::of_bytes(bytes)))
+    });
+    cut_off_jobs(76, 200, &mut |_, job| {
+        let text = TextJob::of_bytes(&job.bench_bytes());
+        let printed = explain(&text);
+        let explained = run::explained(&Library, &text).expect("an explanation");
+        let (answer, route) = (&explained.answer, &explained.route);
+        let lines = explanation::lines(answer, route, &job.bytes, &explained.reason);
+        assert_eq!(printed, lines);
+    });
+    let mut larger = 0;
+    for _ in 0..100 {
+        let (_, mut job) = larger_job(&mut random);
+        job.barred = random.range32(0, 255);
+        let text = TextJob::of_bytes(&job.bench_bytes());
+        assert_eq!(Taker::of(&text), Taker::Call);
+        larger += u32::from(explain(&text).contains("\nbarred lane "));
+    }
+    assert!(larger > 10, "{larger} larger jobs with barred lanes");
+    for kind in [
+        planners::ROUTE,
+        planners::NO_ROUTE,
+        planners::UNFINISHED,
+        14,
+    ] {
+        assert!(kinds[kind] > 50, "kind {kind}: {}", kinds[kind]);
     }
 }
 

@@ -1,7 +1,9 @@
 //! Times whole planner calls of the library under test against the second
 //! planner, which finds its least keys by the same scans; with the argument
 //! `loads`, only those that end before the first turn, also beside the library's
-//! check of the same plan. A program, not a test: its figures are for reading.
+//! check of the same plan; with `explain`, the library's explanations beside its
+//! planner calls on the same jobs, which have no route. A program, not a test:
+//! its figures are for reading.
 //!
 //! With `once PLACES` it makes one such call and one check and ends, so that the
 //! instructions of either can be counted; `once PLACES mixed` does it with costs
@@ -19,6 +21,8 @@ use std::hint::black_box;
 
 use secondcoop_tests::clock::thread_time;
 use secondcoop_tests::dijkstra;
+use secondcoop_tests::explainers::Explainer;
+use secondcoop_tests::explanation::{self, Lists};
 use secondcoop_tests::ffi;
 use secondcoop_tests::generate::{cost_of_groups, Plan};
 use secondcoop_tests::jobs::Job;
@@ -154,14 +158,17 @@ impl Lent {
         }
     }
 
-    fn call(&mut self, planner: &dyn Planner, job: &Job) -> Figures {
-        let memory = Memory {
+    fn memory(&mut self) -> Memory<'_> {
+        Memory {
             route: &mut self.route,
             log: &mut self.log,
             work: &mut self.work,
             wide: &mut self.wide,
-        };
-        planner.plan(black_box(&job.request()), memory)
+        }
+    }
+
+    fn call(&mut self, planner: &dyn Planner, job: &Job) -> Figures {
+        planner.plan(black_box(&job.request()), self.memory())
     }
 }
 
@@ -170,11 +177,12 @@ fn median(mut list: Vec<f64>) -> f64 {
     list[list.len() / 2]
 }
 
-/// Nanoseconds of a call on either side, and the first side's time over the
-/// second's: medians of alternating runs.
+/// Nanoseconds of a call on either side, the first side's time over the
+/// second's, and how much longer it takes: medians of alternating runs.
 struct Times {
     each: [f64; 2],
     ratio: f64,
+    difference: f64,
 }
 
 /// Times what `call` does on side 0 and on side 1.
@@ -200,6 +208,7 @@ fn times(mut call: impl FnMut(usize)) -> Times {
     Times {
         each: [0, 1].map(|side| median(runs.iter().map(|pair| pair[side]).collect())),
         ratio: median(runs.iter().map(|[first, second]| first / second).collect()),
+        difference: median(runs.iter().map(|[first, second]| first - second).collect()),
     }
 }
 
@@ -316,6 +325,92 @@ fn compare_loads() {
     }
 }
 
+/// What cuts the goal off from the start: ramps alone, which are barred.
+#[derive(Clone, Copy)]
+enum Cut {
+    /// The edges to the goal.
+    Goal,
+    /// The edges along rows and columns; the others change neither the row's
+    /// and column's sum from even to odd nor back.
+    Colour,
+    /// All edges.
+    All,
+}
+
+/// A job without guides and with turns without end whose goal is cut off.
+fn cut_off((width, height): (u32, u32), cut: Cut) -> (Plan, Job) {
+    let mut plan = floor(&mut Random::new(7), width, height, Costs::Ordinary);
+    let goal = width / 2 + 1 + height / 2 * width;
+    let colour = |vertex: u32| (vertex % width + vertex / width) % 2;
+    let class = |edge: usize| {
+        let [tail, head] = [plan.tails[edge], plan.heads[edge]];
+        let is_ramp = match cut {
+            Cut::Goal => head == goal,
+            Cut::Colour => colour(tail) != colour(head),
+            Cut::All => true,
+        };
+        if is_ramp {
+            RAMP
+        } else {
+            0
+        }
+    };
+    plan.classes = (0..plan.edges()).map(class).collect();
+    let anchor = vec![0; plan.vertices as usize];
+    let mut job = Job::new(&plan, 0, goal, anchor, vec![], 0, vec![], u32::MAX);
+    job.barred = 1 << RAMP;
+    (plan, job)
+}
+
+/// Times the library's explanation of a job beside its planner call.
+fn compare_with_explanation(name: &str, size: (u32, u32), cut: Cut) {
+    let (plan, job) = cut_off(size, cut);
+    let mut lent = Lent::of(&job);
+    let mut lists = [plan.vertices as usize, plan.edges()].map(|room| vec![0; room]);
+    let mut explain = |explainer: &dyn Explainer, lent: &mut Lent| {
+        let [places, lanes] = &mut lists;
+        let lists = Lists { places, lanes };
+        explainer.explain(black_box(&job.request()), lent.memory(), lists)
+    };
+    let figures = explain(&SecondPlanner, &mut lent);
+    let (call, [places, lanes]) = explanation::parts(figures);
+    let times = times(|side| match side {
+        0 => assert_eq!(black_box(explain(&Library, &mut lent)), figures),
+        _ => assert_eq!(black_box(lent.call(&Library, &job)), call),
+    });
+    let [explained, planned] = times.each.map(|time| time / 1e6);
+    println!(
+        "{name:<22} {:>6} {places:>6} {lanes:>6} {explained:>10.4} {planned:>10.4} {:>10.4} \
+         {:>7.4}",
+        plan.vertices,
+        times.difference / 1e6,
+        times.ratio,
+    );
+}
+
+/// Times explanations on floors whose goals are cut off.
+fn compare_explanations() {
+    println!(
+        "The library's explanations beside its planner calls in the same memory, on floors with \
+         eight edges at each vertex whose goal is cut off by barred ones, without guides: \
+         processor time in ms, medians of {RUNS} alternating runs, the difference and the ratio \
+         of the runs too."
+    );
+    println!(
+        "{:<22} {:>6} {:>6} {:>6} {:>10} {:>10} {:>10} {:>7}",
+        "barred", "V", "places", "lanes", "explain", "plan", "more", "ratio"
+    );
+    for (name, cut) in [
+        ("edges to the goal", Cut::Goal),
+        ("rows and columns", Cut::Colour),
+        ("all edges", Cut::All),
+    ] {
+        for size in &FLOORS[1..] {
+            compare_with_explanation(name, *size, cut);
+        }
+    }
+}
+
 /// Makes one call that ends before its first turn and one check, on the floor
 /// of so many vertices.
 fn call_once(places: &str, costs: Costs) {
@@ -358,12 +453,13 @@ fn main() {
     let arguments: Vec<&str> = arguments.iter().map(String::as_str).collect();
     match arguments[..] {
         ["loads"] => compare_loads(),
+        ["explain"] => compare_explanations(),
         ["once", "text"] => text_once(Sheets::Sensible),
         ["once", "text", "halved"] => text_once(Sheets::Halved),
         ["once", places] => call_once(places, Costs::Ordinary),
         ["once", places, "mixed"] => call_once(places, MIXED),
         [] => compare_all(),
-        _ => panic!("no argument, loads, once PLACES [mixed], or once text [halved]"),
+        _ => panic!("no argument, loads, explain, once PLACES [mixed], or once text [halved]"),
     }
 }
 
