@@ -1,6 +1,6 @@
-//! A second implementation of the plan bytes and of the route planner,
-//! written from the papers alone, and what is needed to compare the library
-//! under test with it.
+//! A second implementation of the plan bytes, of the route planner and of the
+//! reason for no route, written from the papers alone, and what is needed to
+//! compare the library under test with it.
 
 pub mod asked;
 pub mod bench_text;

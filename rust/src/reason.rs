@@ -1,12 +1,14 @@
 //! The reason for no route in plain words, for whoever is rung up when a tug
 //! reports none: how far the tug comes, and which barred lanes hold it up.
 
+use std::collections::BTreeSet;
+
 use crate::explanation::edges_of;
 use crate::jobs::Job;
 use crate::planner::Answer;
 use crate::reference::Edge;
 use crate::run::Explained;
-use crate::words::{count, ranges};
+use crate::words::{class_words, count, ranges};
 
 /// What `job explain` says of a job that is planned.
 pub fn text(explained: &Explained) -> String {
@@ -46,14 +48,18 @@ fn no_route(explained: &Explained) -> String {
         count(places, "place"),
         ranges(&reason.places),
     );
+    let numbered = reason
+        .lanes
+        .iter()
+        .map(|&lane| (lane, edges[lane as usize]));
+    let classes: BTreeSet<u32> = numbered.clone().map(|(_, edge)| edge.class).collect();
+    let classes = class_words(&Vec::from_iter(classes));
     text += &match reason.lanes.len() {
         0 => return text + NO_LANE,
         1 => "1 barred lane leads from these places to another:\n".to_string(),
-        lanes => format!("{lanes} barred lanes lead from these places to others:\n"),
+        lanes => format!("{lanes} barred lanes, of {classes}, lead from these places to others:\n"),
     };
-    for &number in &reason.lanes {
-        text += &lane_words(number, edges[number as usize]);
-    }
+    text.extend(numbered.map(|(number, edge)| lane_words(number, edge)));
     text + &format!(
         "whether it then comes to place {} is not said here: run the job with that class open\n",
         job.goal

@@ -54,16 +54,22 @@ pub fn classes_of(barred: u32) -> Vec<u32> {
         .collect()
 }
 
+/// Classes by their name and numbers.
+pub fn class_words(classes: &[u32]) -> String {
+    let named: Vec<String> = classes.iter().map(u32::to_string).collect();
+    let plural = if classes.len() == 1 { "" } else { "es" };
+    format!("class{plural} {}", named.join(", "))
+}
+
 /// What a job bars, with the count of its lanes that are barred; nothing is
 /// said of a job that bars nothing.
 pub fn barred_words(barred: u32, lanes: usize) -> String {
     let classes = classes_of(barred);
-    let named: Vec<String> = classes.iter().map(u32::to_string).collect();
-    let (named, lanes) = (named.join(", "), count(lanes, "lane"));
+    let (named, lanes) = (class_words(&classes), count(lanes, "lane"));
     match classes.len() {
         0 => String::new(),
-        1 => format!("; class {named} is barred, {lanes}"),
-        _ => format!("; classes {named} are barred, {lanes}"),
+        1 => format!("; {named} is barred, {lanes}"),
+        _ => format!("; {named} are barred, {lanes}"),
     }
 }
 

@@ -355,6 +355,84 @@ fn plan_of(vertices: u32, lanes: &[[u32; 3]]) -> Plan {
     }
 }
 
+/// A row of the table: its number, its position, and ways to damage a question
+/// for it.
+type Row = (u32, usize, &'static [fn(&mut Question)]);
+
+/// The rows from the last to the first, on the floor below: of several the
+/// last in this order counts.
+const ROWS: [Row; 9] = [
+    (13, 1, &[|asked| asked.job.anchor[1] = 9]),
+    (12, 0, &[|asked| asked.job.anchor[3] = 1]),
+    (
+        11,
+        0,
+        &[
+            |asked| asked.places_room -= 1,
+            |asked| asked.lanes_room -= 1,
+            |asked| (asked.places_room, asked.lanes_room) = (0, 0),
+            |asked| asked.job.route_room -= 1,
+            |asked| (asked.job.work_room, asked.lanes_room) = (0, 2),
+            |asked| (asked.job.wide_room, asked.places_room) = (7, 3),
+        ],
+    ),
+    (
+        10,
+        0,
+        &[
+            |asked| asked.job.schedule = vec![100],
+            |asked| asked.job.default_schedule.clear(),
+        ],
+    ),
+    (
+        9,
+        0,
+        &[
+            |asked| asked.job.guide_count = 9,
+            |asked| asked.job.anchor.push(0),
+        ],
+    ),
+    (
+        8,
+        0,
+        &[
+            |asked| asked.job.start = 4,
+            |asked| asked.job.goal = 4,
+            |asked| asked.job.barred = MOST_BARRED + 1,
+        ],
+    ),
+    (7, 14, &[|asked| asked.job.bytes.push(0)]),
+    (15, 13, &[|asked| asked.job.bytes[13] = 8]),
+    (2, 0, &[|asked| asked.job.bytes[0] = 0]),
+];
+
+/// Each row in each of its ways or left out, in every combination: the first
+/// row counts, and where all are left out there is no route.
+#[test]
+fn the_first_row_counts_in_every_combination() {
+    let plan = plan_of(4, &[[0, 1, 0], [1, 3, 1], [2, 3, 0]]);
+    let mut job = Job::new(&plan, 0, 3, vec![0; 4], vec![], 0, vec![], 9);
+    job.barred = 2;
+    let choices: usize = ROWS.iter().map(|(_, _, ways)| ways.len() + 1).product();
+    for mut choice in 0..choices {
+        let mut question = Question::of(&job);
+        let mut known = Answer::NoRoute { turns: 2 };
+        for (number, position, ways) in ROWS {
+            if let Some(damage) = ways.get(choice % (ways.len() + 1)) {
+                damage(&mut question);
+                known = refused(number, position);
+            }
+            choice /= ways.len() + 1;
+        }
+        let explained = asked_alike(&question, 9);
+        assert_eq!(explained.answer(), known, "{question:02X?}");
+        if known == (Answer::NoRoute { turns: 2 }) {
+            assert_eq!(explained.listed(), [&[0, 1][..], &[1]]);
+        }
+    }
+    assert_eq!(choices, 2 * 2 * 7 * 3 * 3 * 4 * 8);
+}
+
 /// What both sides list of a job without guides and with turns without end;
 /// nothing if there is a route.
 fn listed(plan: &Plan, start: u32, goal: u32, barred: u32) -> Option<[Vec<u32>; 2]> {

@@ -686,12 +686,16 @@ fn no_route_is_explained() {
     assert_eq!(ramp, left(1, &read("only-ramp.explain"), ""));
     let lines = job(&["explain", "--lines"], read("only-ramp.txt"));
     assert_eq!(lines, left(1, &read("only-ramp.lines"), ""));
+    // The option may stand behind the file.
+    let path = example("only-ramp.txt");
+    let path = path.to_str().expect("a path");
+    assert_eq!(job(&["explain", path, "--lines"], ""), lines);
     // Two lanes, of two classes.
     let all = with("ramp.txt", "barred 0", "barred 255");
     let all = all.replace("lane 0 4 5 0", "lane 0 4 5 3");
     let words = "there is no route from place 0 to place 3 over permitted lanes\n\
                  from place 0 the tug can reach 1 of the 6 places: 0\n\
-                 2 barred lanes lead from these places to others:\n\
+                 2 barred lanes, of classes 0, 3, lead from these places to others:\n\
                  open class 0 and the tug gets past lane 0 -> 1 (lane number 0, cost 2)\n\
                  open class 3 and the tug gets past lane 0 -> 4 (lane number 1, cost 5)\n\
                  whether it then comes to place 3 is not said here: run the job with that class \

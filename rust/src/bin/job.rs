@@ -333,7 +333,9 @@ fn main() -> ExitCode {
         [command, lines] if command == "explain" && lines == "--lines" => {
             on_job(None, Read::explain_lines)
         }
-        [command, lines, path] if command == "explain" && lines == "--lines" => {
+        [command, lines, path] | [command, path, lines]
+            if command == "explain" && lines == "--lines" =>
+        {
             on_job(Some(path), Read::explain_lines)
         }
         [command] => on_file(&command.to_string_lossy(), None),
