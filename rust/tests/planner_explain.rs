@@ -18,7 +18,7 @@ use secondcoop_tests::generate::Plan;
 use secondcoop_tests::guarded::{Guarded, GUARD};
 use secondcoop_tests::jobs::{self, Job};
 use secondcoop_tests::planner::{Answer, Memory, Request, MOST_BARRED};
-use secondcoop_tests::planners::{self, kind_of, Library, SecondPlanner};
+use secondcoop_tests::planners::{self, kind_of, shortened, Library, SecondPlanner};
 use secondcoop_tests::random::Random;
 use secondcoop_tests::reference::{MOST_EDGES, MOST_VERTICES};
 
@@ -123,16 +123,25 @@ fn is_right(plan: &Plan, job: &Job, explained: &Explained) {
     assert!(lanes.iter().all(barred));
 }
 
+/// A question in words, for a comparison that fails.
+fn words(question: &Question) -> String {
+    shortened(format!("{question:02X?}"))
+}
+
 /// Asks both sides; the library's explanation, which is that of the second
 /// side, leaves what its planner call leaves, and the rest as it was.
 fn asked_alike(question: &Question, salt: u64) -> Explained {
     let [library, second] =
         [&Library as &dyn Explainer, &SecondPlanner].map(|e| explainers::run(e, question, salt));
     let differing = explainers::difference(&library, &second);
-    assert_eq!(differing, None, "{salt}: {question:02X?}");
-    assert!(library.keeps_the_rest(question, salt), "{question:02X?}");
+    assert_eq!(differing, None, "{}", words(question));
+    assert!(
+        library.keeps_the_rest(question, salt),
+        "{}",
+        words(question)
+    );
     let none = matches!(library.answer(), Answer::NoRoute { .. });
-    assert!(none || library.counts == [0; 2], "{question:02X?}");
+    assert!(none || library.counts == [0; 2], "{}", words(question));
     library
 }
 
@@ -140,7 +149,7 @@ fn asked_alike(question: &Question, salt: u64) -> Explained {
 fn explained_alike(question: &Question, salt: u64) -> Explained {
     let explained = asked_alike(question, salt);
     let call = planners::run(&Library, &question.job, salt);
-    assert_eq!(explained.call, call, "{question:02X?}");
+    assert_eq!(explained.call, call, "{}", words(question));
     explained
 }
 
@@ -282,7 +291,7 @@ fn short_lists_count(job: &Job, known: Answer, salt: u64) -> u64 {
             _ => refused(11, 0),
         };
         let explained = asked_alike(&question, salt);
-        assert_eq!(explained.answer(), known, "{question:02X?}");
+        assert_eq!(explained.answer(), known, "{}", words(&question));
         count += 1;
     }
     count
@@ -425,7 +434,7 @@ fn the_first_row_counts_in_every_combination() {
             choice /= ways.len() + 1;
         }
         let explained = asked_alike(&question, 9);
-        assert_eq!(explained.answer(), known, "{question:02X?}");
+        assert_eq!(explained.answer(), known, "{}", words(&question));
         if known == (Answer::NoRoute { turns: 2 }) {
             assert_eq!(explained.listed(), [&[0, 1][..], &[1]]);
         }
