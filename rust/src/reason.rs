@@ -35,35 +35,39 @@ fn unfinished(job: &Job, turns: u32) -> String {
 }
 
 fn no_route(explained: &Explained) -> String {
-    let job = &explained.job;
+    let Explained { job, reason, .. } = explained;
     let (edges, places) = edges_of(&job.bytes);
-    let reason = &explained.reason;
-    let mut text = format!(
-        "there is no route from place {} to place {} over permitted lanes\n\
-         from place {} the tug can reach {} of the {}: {}\n",
-        job.start,
-        job.goal,
-        job.start,
+    let [start, goal] = [job.start, job.goal];
+    let reached = format!(
+        "there is no route from place {start} to place {goal} over permitted lanes\n\
+         from place {start} the tug can reach {} of the {}: {}\n",
         reason.places.len(),
         count(places, "place"),
         ranges(&reason.places),
     );
-    let numbered = reason
-        .lanes
-        .iter()
-        .map(|&lane| (lane, edges[lane as usize]));
-    let classes: BTreeSet<u32> = numbered.clone().map(|(_, edge)| edge.class).collect();
+    let leaving = |&number: &u32| (number, edges[number as usize]);
+    let leaving: Vec<(u32, Edge)> = reason.lanes.iter().map(leaving).collect();
+    match leaving.is_empty() {
+        true => reached + NO_LANE,
+        false => format!(
+            "{reached}{}whether it then comes to place {goal} is not said here: run the job with \
+             that class open\n",
+            held_up_by(&leaving)
+        ),
+    }
+}
+
+/// The barred lanes that leave what can be reached, a line for each.
+fn held_up_by(lanes: &[(u32, Edge)]) -> String {
+    let classes = BTreeSet::from_iter(lanes.iter().map(|(_, edge)| edge.class));
     let classes = class_words(&Vec::from_iter(classes));
-    text += &match reason.lanes.len() {
-        0 => return text + NO_LANE,
+    let title = match lanes.len() {
         1 => "1 barred lane leads from these places to another:\n".to_string(),
         lanes => format!("{lanes} barred lanes, of {classes}, lead from these places to others:\n"),
     };
-    text.extend(numbered.map(|(number, edge)| lane_words(number, edge)));
-    text + &format!(
-        "whether it then comes to place {} is not said here: run the job with that class open\n",
-        job.goal
-    )
+    lanes.iter().fold(title, |text, &(number, edge)| {
+        text + &lane_words(number, edge)
+    })
 }
 
 const NO_LANE: &str = "no lane at all, barred or not, leads from these places to others, so \
