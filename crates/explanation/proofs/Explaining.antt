@@ -35,7 +35,7 @@ use Rattle.admission.proofs.Admits.{accepted-header}
 use Rattle.planner.specs.Plan.{memoryOf, Planned}
 use Rattle.planner.specs.Carried.{wordsOf}
 use Rattle.workspace.proofs.Written.{length-verticesOf}
-use Rattle.workspace.proofs.Holding.{accepted-rising, holds-vertices, holds-graph, holds-origin, holds-ready}
+use Rattle.workspace.proofs.Holding.{accepted-rising, holds-vertices, holds-graph, holds-ready, holds-whole}
 use Rattle.explanation.specs.Explained.{Explained}
 use Rattle.explanation.specs.Listing.{sizeIn, endsWithout, Held, Listable, reachedIn, leavingIn, Lists}
 
@@ -234,7 +234,7 @@ module _ (x : Inquiry) (z : Size) (size-is : z ≡ sizeIn (header (x .call .byte
                 let o = holds (not-refused e) in
                 record {
                   ready = holds-ready z _ _ _ _ o;
-                  origin = holds-origin z _ _ _ _ o;
+                  whole = holds-whole z _ _ _ _ o;
                   edge-count = ap length (holds-graph z _ _ _ _ o) ∙ o .edges;
                   vertices-room = rooms .0;
                   edges-room = rooms .1;

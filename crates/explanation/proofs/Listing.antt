@@ -18,7 +18,8 @@ use Rattle.search.specs.Permitted.{barredBy}
 use Rattle.search.specs.Reason.{numbersOf, isReached, leaves}
 use Rattle.search.proofs.Numbers.{numbers-append, numbers-few}
 use Rattle.workspace.specs.declared.Size.{Size}
-use Rattle.workspace.specs.Layout.{firstOf, edgeAt, edgesRun, edgesAt, edgesUnder, graphOf, Loaded}
+use Rattle.workspace.proofs.Numbered.{length-run, run-more, under-more, length-under}
+use Rattle.workspace.specs.Layout.{firstOf, edgeAt, edgesRun, edgesAt, edgesUnder, graphOf, Whole}
 
 -- ---- a number added, or not
 
@@ -97,22 +98,6 @@ module _ (b : ℕ) (st : List Vertex) (e given : Edge) (q : given ≡ e) (x : Bo
 -- ---- the edges of a tail
 
 module _ (z : Size) (w : List ℕ) where
-  length-run : (t n j : ℕ) → length (edgesRun z w t n j) ≡ n
-  unfolding edgesRun
-  length-run t zero j = refl
-  length-run t (suc n) j = ap suc (length-run t n (suc j))
-
-  run-more : (t n j : ℕ) → edgesRun z w t (suc n) j ≡ edgesRun z w t n j ++ (edgeAt z w t (j + n) ∷ [])
-  unfolding edgesRun
-  run-more t zero j = let e : j ≡ j + 0 = omega arith in ap (λ (i : ℕ). edgeAt z w t i ∷ []) e
-  run-more t (suc n) j =
-      let e : suc j + n ≡ j + suc n = omega arith in
-      ap (λ (l : List Edge). edgeAt z w t j ∷ l) (run-more t n (suc j) ∙ ap (λ (i : ℕ). edgesRun z w t n (suc j) ++ (edgeAt z w t i ∷ [])) e)
-
-  pub length-at : (t : ℕ) → length (edgesAt z w t) ≡ firstOf w (suc t) - firstOf w t
-  unfolding edgesAt
-  length-at t = length-run t (firstOf w (suc t) - firstOf w t) (firstOf w t)
-
   -- those before number j are listed after k others, up to `next`
   pub record RunListed (test : Edge → Bool) (t first k : ℕ) (old : List ℕ) (j next : ℕ) (list : List ℕ) : Type 0 where
     pub put : Put k (numbersOf test first (edgesRun z w t (j - first) first)) old next list
@@ -126,7 +111,7 @@ module _ (z : Size) (w : List ℕ) where
     module _ (j next : ℕ) (list : List ℕ) (l : RunListed test t first k old j next list) where
       pub run-few : k ≤ first → next ≤ j
       run-few h =
-          omega (arith, l .put .next, l .from, numbers-few test first (edgesRun z w t (j - first) first), length-run t (j - first) first)
+          omega (arith, l .put .next, l .from, numbers-few test first (edgesRun z w t (j - first) first), length-run z w t (j - first) first)
 
       pub run-next :
           (b : Bool) (end : ℕ) (new : List ℕ) → b ≡ test (edgeAt z w t j) → Put next (cond b (j ∷ []) []) list end new →
@@ -136,8 +121,8 @@ module _ (z : Size) (w : List ℕ) where
           let i : first + (j - first) ≡ j = omega (arith, l .from) in
           record {
             put =
-                rw (q, run-more t (j - first) first, i)
-                (one-more test (edgesRun z w t (j - first) first) (edgeAt z w t j) first j (ap (λ (n : ℕ). first + n) (length-run t (j - first) first) ∙ i) (l .put) (rw e at p));
+                rw (q, run-more z w t (j - first) first, i)
+                (one-more test (edgesRun z w t (j - first) first) (edgeAt z w t j) first j (ap (λ (n : ℕ). first + n) (length-run z w t (j - first) first) ∙ i) (l .put) (rw e at p));
             from = omega (arith, l .from);
           }
 
@@ -155,14 +140,6 @@ module _ (z : Size) (w : List ℕ) where
 -- ---- all edges
 
 module _ (z : Size) (w : List ℕ) where
-  under-more : (n t : ℕ) → edgesUnder z w (suc n) t ≡ edgesUnder z w n t ++ edgesAt z w (t + n)
-  unfolding edgesUnder
-  under-more zero t = rw (append-nil, add-zero)
-  under-more (suc n) t =
-      let e : suc t + n ≡ t + suc n = omega arith in
-      ap (λ (l : List Edge). edgesAt z w t ++ l) (under-more n (suc t) ∙ ap (λ (i : ℕ). edgesUnder z w n (suc t) ++ edgesAt z w i) e)
-      ∙ sym (append-assoc (edgesAt z w t) (edgesUnder z w n (suc t)) (edgesAt z w (t + suc n)))
-
   -- those of the tails before number t are listed, k of them
   pub record TailsListed (test : Edge → Bool) (old : List ℕ) (t k : ℕ) (list : List ℕ) : Type 0 where
     pub put : Put 0 (numbersOf test 0 (edgesUnder z w t 0)) old k list
@@ -172,18 +149,10 @@ module _ (z : Size) (w : List ℕ) where
   unfolding numbersOf edgesUnder
   tails-none test old = record { put = put-nil 0 old; inside = omega arith }
 
-  module _ (r : Loaded z w) (origin : firstOf w 0 ≡ 0) where
-    length-under : (t : ℕ) → t ≤ z .vertices → length (edgesUnder z w t 0) ≡ firstOf w t
-    unfolding edgesUnder
-    length-under zero h = sym origin
-    length-under (suc t) h =
-        ap length (under-more t 0 ∙ ap (λ (i : ℕ). edgesUnder z w t 0 ++ edgesAt z w i) (zero-add t))
-        ∙ length-append (edgesUnder z w t 0) (edgesAt z w t)
-        ∙ omega (arith, length-under t (omega arith), length-at z w t, r .rise t h)
-
+  module _ (r : Whole z w) where
     module _ (test : Edge → Bool) (old : List ℕ) (t k : ℕ) (list : List ℕ) (l : TailsListed test old t k list) where
       pub tails-few : k ≤ firstOf w t
-      tails-few = omega (arith, l .put .next, numbers-few test 0 (edgesUnder z w t 0), length-under t (l .inside))
+      tails-few = omega (arith, l .put .next, numbers-few test 0 (edgesUnder z w t 0), length-under z w r t (l .inside))
 
       pub tails-next :
           (end : ℕ) (new : List ℕ) → t < z .vertices → Put k (numbersOf test (firstOf w t) (edgesAt z w t)) list end new →
@@ -191,7 +160,7 @@ module _ (z : Size) (w : List ℕ) where
       tails-next end new h p =
           record {
             put =
-                rw (add-one t, under-more t 0, zero-add t, numbers-append test 0 (edgesUnder z w t 0) (edgesAt z w t), zero-add (length (edgesUnder z w t 0)), length-under t (l .inside))
+                rw (add-one t, under-more z w t 0, zero-add t, numbers-append test 0 (edgesUnder z w t 0) (edgesAt z w t), zero-add (length (edgesUnder z w t 0)), length-under z w r t (l .inside))
                 (then-put (l .put) p);
             inside = omega arith;
           }

@@ -13,7 +13,7 @@ use Rattle.search.specs.declared.Answer.the-variants.{Route, NoRoute, Unfinishe
 use Rattle.search.specs.declared.Explanation.{Explanation}
 use Rattle.search.specs.Reason.{numbersOf, isReached, leaves, listedAt}
 use Rattle.workspace.specs.declared.Size.{Size}
-use Rattle.workspace.specs.Layout.{Words, verticesOf, firstOf, graphOf, Ready}
+use Rattle.workspace.specs.Layout.{Words, verticesOf, graphOf, Whole, Ready}
 
 -- V and M of a plan's header
 unfoldable pub sizeIn : Header → Size
@@ -30,7 +30,7 @@ endsWithout (Refused n p) = false
 -- memory from which lists are made, and room for them
 pub record Held (z : Size) (m : Words) (vertices edges : List ℕ) : Type 0 where
   pub ready : Ready z m
-  pub origin : firstOf (m .work) 0 ≡ 0
+  pub whole : Whole z (m .work)
   pub edge-count : length (graphOf z (m .work)) ≡ z .edges
   pub vertices-room : z .vertices ≤ length vertices
   pub edges-room : z .edges ≤ length edges

@@ -5,7 +5,7 @@ ghost use lib.ListN.{length};
 ghost use Rattle.text.specs.Laid.{Put};
 ghost use Rattle.search.specs.Reason as reason;
 ghost use Rattle.search.specs.Reason.{numbersOf};
-ghost use Rattle.workspace.specs.Layout.{mem, verticesOf, firstOf, edgeAt, edgesAt, graphOf, Ready};
+ghost use Rattle.workspace.specs.Layout.{mem, verticesOf, firstOf, edgeAt, edgesAt, graphOf, Whole, Ready};
 use crate::lists;
 use crate::vertices;
 use workspace::Size;
@@ -51,7 +51,7 @@ fn list_edges_of(
 
 // Lists the edges that leave, by their numbers among all edges, in plan order; how many they are.
 pub fn list_edges(work: &[u32], wide: &[u64], z: Size, barred: u32, list: &mut [u32]) -> u32
-    requires { ⌜ Ready z (mem (now work) (now wide)) × (firstOf (now work) 0 ≡ 0) × (z .edges ≤ length (now list)) ⌝ }
+    requires { ⌜ Ready z (mem (now work) (now wide)) × Whole z (now work) × (z .edges ≤ length (now list)) ⌝ }
     ensures { λ r. ⌜ Put 0 (numbersOf (reason.leaves barred (verticesOf z (mem (now (work .entry)) (now (wide .entry))))) 0 (graphOf z (now (work .entry)))) (now (list .entry)) r (now (list .exit)) ⌝ }
 {
     let vertices = z.vertices;

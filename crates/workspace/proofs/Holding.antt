@@ -14,7 +14,7 @@ use Rattle.graph.proofs.Plan.{whole}
 use Rattle.search.specs.declared.Vertex.{Vertex}
 use Rattle.search.specs.Outcome.{edgesBelow, firstEdges, vertexWords, workWords}
 use Rattle.workspace.specs.declared.Size.{Size}
-use Rattle.workspace.specs.Layout.{base, Words, mem, WorkRoom, Room, verticesOf, written, firstOf, edgeAt, edgesRun, edgesAt, edgesUnder, graphOf, graphWords, Loaded, Ready, Becomes}
+use Rattle.workspace.specs.Layout.{base, Words, mem, WorkRoom, Room, verticesOf, written, firstOf, edgeAt, edgesRun, edgesAt, edgesUnder, graphOf, graphWords, Loaded, Whole, Ready, Becomes}
 use Rattle.workspace.specs.Holds.{Rising, then, Holds}
 use Rattle.workspace.proofs.Firsts.{passes-rising, below-none, below-all, below-rise, below-most, tail-at, length-firsts, length-graph, graph-columns}
 use Rattle.workspace.proofs.Written.{verticesOf-written, written-written, first-written, ready-loaded, graphOf-written}
@@ -146,6 +146,9 @@ module _ (z : Size) (es : List Edge) (r : List ℕ) (le : length es ≡ z .edges
   pub origin-is : firstOf words 0 ≡ 0
   origin-is = first-is 0 (omega arith) ∙ below-none 0 es rise (omega arith)
 
+  pub end-is : firstOf words (z .vertices) ≡ z .edges
+  end-is = first-is (z .vertices) (omega arith) ∙ below-all es rise ∙ le
+
   pub graph-is : graphOf z words ≡ es
   unfolding graphOf
   graph-is = under-is (z .vertices) 0 (omega arith) ∙ rw (below-none 0 es rise (omega arith))
@@ -242,16 +245,21 @@ module _ (z : Size) (es : List Edge) (st : List Vertex) (old m : Words) (h : Hol
       ∙ graphOf-written z loaded loaded-room loaded-graph st (h .vertices)
       ∙ graph-is z es (drop (length (graphWords (z .vertices) es)) (old .work)) (h .edges) (h .rising)
 
-  -- the first edge is number 0
-  pub holds-origin : firstOf (m .work) 0 ≡ 0
-  unfolding over
-  holds-origin =
-      ap (λ (x : Words). firstOf (x .work) 0) as-written
-      ∙ first-written z loaded loaded-room st (h .vertices) 0 (omega arith)
-      ∙ origin-is z es (drop (length (graphWords (z .vertices) es)) (old .work)) (h .edges) (h .rising)
+  first-loaded : (t : ℕ) → t ≤ z .vertices → firstOf (m .work) t ≡ firstOf (loaded .work) t
+  first-loaded t l = ap (λ (x : Words). firstOf (x .work) t) as-written ∙ first-written z loaded loaded-room st (h .vertices) t l
 
   pub holds-ready : Ready z m
   holds-ready = rw as-written (ready-loaded z loaded loaded-room loaded-graph st (h .vertices))
+
+  pub holds-whole : Whole z (m .work)
+  unfolding over
+  holds-whole =
+      let r : List ℕ = drop (length (graphWords (z .vertices) es)) (old .work) in
+      record {
+        graph = holds-ready .graph;
+        origin = first-loaded 0 (omega arith) ∙ origin-is z es r (h .edges) (h .rising);
+        end = first-loaded (z .vertices) (omega arith) ∙ end-is z es r (h .edges) (h .rising);
+      }
 
   -- other vertices written
   pub holds-written : (su : List Vertex) (m′ : Words) → length su ≡ z .vertices → Becomes z su m m′ → Holds z es su old m′

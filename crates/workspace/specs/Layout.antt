@@ -121,6 +121,10 @@ edgesUnder z w (suc n) t = edgesAt z w t ++ edgesUnder z w n (suc t)
 unfoldable pub graphOf : Size → List ℕ → List Edge
 graphOf z w = edgesUnder z w (z .vertices) 0
 
+-- e is edge j of all edges
+abbrev pub Numbered : Size → List ℕ → ℕ → Edge → Type 0
+Numbered z w j e = (other : Edge) → e ≡ getD (graphOf z w) j other
+
 -- the words of a graph: first edges, heads, costs, classes
 unfoldable pub graphWords : ℕ → List Edge → List ℕ
 graphWords v es = firstEdges (suc v) 0 es ++ (map headOf es ++ (map costOf es ++ map classOf es))
@@ -143,6 +147,12 @@ pub record Loaded (z : Size) (w : List ℕ) : Type 0 where
   pub ends : (t : ℕ) → t < z .vertices → firstOf w (suc t) ≤ z .edges
   pub heads : (t j : ℕ) → j < z .edges → edgeAt z w t j .head < z .vertices
   pub classes : (t j : ℕ) → j < z .edges → edgeAt z w t j .class ≤ maxClass
+
+-- and all edges are under one of its vertices
+pub record Whole (z : Size) (w : List ℕ) : Type 0 where
+  pub graph : Loaded z w
+  pub origin : firstOf w 0 ≡ 0
+  pub end : firstOf w (z .vertices) ≡ z .edges
 
 -- memory holds vertices and a graph
 pub record Ready (z : Size) (m : Words) : Type 0 where

@@ -1,8 +1,9 @@
-// The words of edges in work memory: the first edge of a vertex read, and an edge read and put.
+// The words of edges in work memory: the first edge of a vertex read; an edge read, by its tail and number or by its
+// number alone, and put.
 ghost use mathlib.Core.Path.{_≡_};
-ghost use Prim.Native.Nat.{_<_, _≤_};
+ghost use Prim.Native.Nat.{_<_, _≤_, suc};
 ghost use lib.ListN.{length};
-ghost use Rattle.workspace.specs.Layout.{base, firstOf, edgeAt, edgePut};
+ghost use Rattle.workspace.specs.Layout.{base, firstOf, edgeAt, edgePut, Numbered, Whole};
 use crate::Size;
 use graph::Edge;
 
@@ -33,6 +34,29 @@ pub fn edge(work: &[u32], z: Size, t: u32, j: u32) -> Edge
         cost,
         class,
     }
+}
+
+// The tail of edge j.
+fn tail(work: &[u32], z: Size, j: u32) -> u32
+    requires { ⌜ Whole z (now work) × (j < z .edges) ⌝ }
+    ensures { λ r. ⌜ (r < z .vertices) × (firstOf (now (work .entry)) r ≤ j) × (j < firstOf (now (work .entry)) (suc r)) ⌝ }
+{
+    let mut t: u32 = 0;
+    let mut next = first_edge(work, z, 1);
+    while next <= j {
+        t += 1;
+        next = first_edge(work, z, t + 1);
+    }
+    t
+}
+
+// Edge j of all edges, in plan order.
+pub fn numbered(work: &[u32], z: Size, j: u32) -> Edge
+    requires { ⌜ Whole z (now work) × (j < z .edges) ⌝ }
+    ensures { λ r. ⌜ Numbered z (now (work .entry)) j r ⌝ }
+{
+    let t = tail(work, z, j);
+    edge(work, z, t, j)
 }
 
 // Head, cost and class of edge j.

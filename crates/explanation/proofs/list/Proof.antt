@@ -23,7 +23,7 @@ list-edges-requires : tie.Need-list-edges-requires
 list-edges-requires c κs =
     let k = c .before .before .before .before .before .before in
     let y = k .before .before .before .before .before .pre (sym (k .ends-without .ensures) ∙ not-false (k .ends-without .result) (c .before .before .before .before .before .if1 .left)) in
-    (y .ready, y .origin, y .edges-room)
+    (y .ready, y .whole, y .edges-room)
 
 same-length : tie.Need-same-length
 same-length c = search needs

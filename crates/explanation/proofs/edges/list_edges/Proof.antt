@@ -23,8 +23,8 @@ list-edges-of-requires c κs =
     let l = c .before .before .loop in (
       a .pre .0,
       c .before .loop-test .taken,
-      tails-few _ _ (a .pre .0 .graph) (a .pre .1) _ _ (l .t) (l .k) (l .list) (l .inv),
-      omega (arith, a .pre .2, tails-length _ _ (a .pre .0 .graph) (a .pre .1) _ _ (l .t) (l .k) (l .list) (l .inv)),
+      tails-few _ _ (a .pre .1) _ _ (l .t) (l .k) (l .list) (l .inv),
+      omega (arith, a .pre .2, tails-length _ _ (a .pre .1) _ _ (l .t) (l .k) (l .list) (l .inv)),
     )
 
 add-t : tie.Need-add-t Inv-loop μ-loop
@@ -38,19 +38,19 @@ loop-again c =
     let k = c .before .before .before .before .before in
     let a = k .before .before .before .before in
     let l = k .loop in
-    tails-next _ _ (a .pre .0 .graph) (a .pre .1) _ _ (l .t) (l .k) (l .list) (l .inv) _ _ (c .before .before .before .before .loop-test .taken) (c .before .before .list-edges-of .ensures)
+    tails-next _ _ (a .pre .1) _ _ (l .t) (l .k) (l .list) (l .inv) _ _ (c .before .before .before .before .loop-test .taken) (c .before .before .list-edges-of .ensures)
 
 same-length : tie.Need-same-length Inv-loop μ-loop
 same-length c =
     let a = c .before .before .before .before .before in
     let l = c .before .loop in
-    tails-length _ _ (a .pre .0 .graph) (a .pre .1) _ _ (l .t) (l .k) (l .list) (l .inv)
+    tails-length _ _ (a .pre .1) _ _ (l .t) (l .k) (l .list) (l .inv)
 
 returns : tie.Need-returns Inv-loop μ-loop
 returns c =
     let a = c .before .before .before .before .before in
     let l = c .before .loop in
-    tails-all _ _ (a .pre .0 .graph) (a .pre .1) _ _ (l .t) (l .k) (l .list) (l .inv) (c .loop-test .left)
+    tails-all _ _ (a .pre .1) _ _ (l .t) (l .k) (l .list) (l .inv) (c .loop-test .left)
 
 pub list-edges-spec : {M : Type 1} → statement M
 list-edges-spec =
