@@ -18,11 +18,11 @@ use Rattle.job.specs.Front.{following, rounds, ends, front}
 use Rattle.job.specs.Front
 use Rattle.job.specs.Reading.{planOf, tableCount, afterTables, afterSizes, afterPlan, afterFront, jobRead}
 use Rattle.job.specs.Asked.{factorsOf, tablesOf, anchorOf, sheetsOf, zeros, callWith, callAsked}
-use Rattle.job.specs.Printed.{turns, ending, printed, callText, textOf, benchText}
+use Rattle.job.specs.Printed.{turns, lastLines, printed, callText, textOf, benchText}
 use Rattle.job.specs.JobA.{PrintsA}
 
 pub prints-A : PrintsA
-unfolding Number.decode more answered read planGroups jobGroups vertexCountRows edgeCountRows tailRows headRows costRows classRows through throughAll takeNumber taking leastAfter past nextEdge before onward edgesFrom header afterHeader decode sizes over edgesIn edgeCost onEdge costFrom routeCost barredBy permitted cyclic guides heuristic factors standard unreached noPred routeEnd noOpinion fresh origin atFirst at key offered better leastFrom least stepOne candidate choose marked lowered relax relaxAll expand firstTurn nextTurn turned ended inHand step choice turn trace traced improves costOr reopened endRound onFinished settle settled begin onDue advance run moments search orDefault scheduleOf outOfRange rising unfitSchedule pairs row first endsRow tablesRow scheduleRow memoryRow goalRow edgesRow faultIn faultOf planEdges tables jobIn jobFrom jobOf bound summary cutShort answerAt answerOf figures routeWords routeAfter logWord logAfter outcome answerIn answer memoryIn memoryAfter ascii digitsIn digits field turnLine loggedLine each turnLines vertices routeLine endLine unfinishedLine refusedLine endAfter endOf valueBefore values following Front.past rounds ends front planOf tableCount afterTables afterSizes afterPlan afterFront jobRead factorsOf tablesOf anchorOf sheetsOf zeros callWith callAsked turns ending printed callText textOf benchText
+unfolding Number.decode more answered read planGroups jobGroups vertexCountRows edgeCountRows tailRows headRows costRows classRows through throughAll takeNumber taking leastAfter past nextEdge before onward edgesFrom header afterHeader decode sizes over edgesIn edgeCost onEdge costFrom routeCost barredBy permitted cyclic guides heuristic factors standard unreached noPred routeEnd noOpinion fresh origin atFirst at key offered better leastFrom least stepOne candidate choose marked lowered relax relaxAll expand firstTurn nextTurn turned ended inHand step choice turn trace traced improves costOr reopened endRound onFinished settle settled begin onDue advance run moments search orDefault scheduleOf outOfRange rising unfitSchedule pairs row first endsRow tablesRow scheduleRow memoryRow goalRow edgesRow faultIn faultOf planEdges tables jobIn jobFrom jobOf bound summary cutShort answerAt answerOf figures routeWords routeAfter logWord logAfter outcome answerIn answer memoryIn memoryAfter ascii digitsIn digits field turnLine loggedLine each turnLines vertices routeLine endLine unfinishedLine refusedLine endAfter endOf valueBefore values following Front.past rounds ends front planOf tableCount afterTables afterSizes afterPlan afterFront jobRead factorsOf tablesOf anchorOf sheetsOf zeros callWith callAsked turns lastLines printed callText textOf benchText
 prints-A =
     record {
       whole = refl;

@@ -8,11 +8,14 @@ use lib.Seq.{getD-take}
 use mir.Val.{Fits}
 use mir.Syntax.{w32}
 use Rattle.text.specs.Laid.{Put}
-use Rattle.text.specs.Text.{loggedLine, turnLines, routeLine, endLine, noRouteLine, unfinishedLine, refusedLine}
+use Rattle.text.specs.Text.{loggedLine, each, turnLines, reachLine, routeLine, endLine, noRouteLine, unfinishedLine, refusedLine}
 use Rattle.text.proofs.Laid.{put-length, then-put}
-use Rattle.text.proofs.Lengths.{length-each, length-turn-line, length-end-line, length-no-route-line, length-unfinished-line, length-refused-line, length-route-line}
+use Rattle.text.proofs.Lengths.{length-each, length-turn-line, length-end-line, length-no-route-line, length-unfinished-line, length-refused-line, length-route-line, length-reach-line}
+use Rattle.graph.specs.declared.Edge.{Edge}
+use Rattle.job.specs.Reading.{maxJobVertices, maxJobEdges}
 use Rattle.job.specs.Asked.{routeSize, logSize}
-use Rattle.job.specs.Texts.{maxText, Texts, BenchSized}
+use Rattle.job.specs.Explained.{edgeLine}
+use Rattle.job.specs.Texts.{maxEnd, maxText, Texts}
 
 -- every word is one of 32 bits
 abbrev pub Words : List ℕ → Type 0
@@ -56,33 +59,29 @@ refused-few n p q r = length-refused-line 20 (omega arith) n p (omega arith) (om
 
 -- ---- the text of an ending
 
-module _ {old : List ℕ} {at : ℕ} {mid : List ℕ} {r : ℕ} {new : List ℕ} where
-  -- the turn lines, and one line after them
-  pub one-line :
-      (n : ℕ) (log line : List ℕ) → Words log → length log ≤ logSize → length line ≤ 112 → Put 0 (turnLines (take n log)) old at mid → Put at line mid r new →
-      Texts (turnLines (take n log) ++ line) old r new
-  one-line n log line words short few first second =
-      record { put = then-put first second; few = omega (arith, turns-few n log words short, first .next, second .next) }
+-- one text alone, and one after the turn lines
+pub alone : {line old : List ℕ} {r : ℕ} {new : List ℕ} → length line ≤ maxText → Put 0 line old r new → Texts line old r new
+alone h p = record { put = p; few = omega (arith, p .next) }
 
-module _ {old : List ℕ} {at : ℕ} {mid : List ℕ} {end : ℕ} {near : List ℕ} {r : ℕ} {new : List ℕ} where
-  -- the turn lines, the route line, and one line after them
-  pub two-lines :
-      (n : ℕ) (log : List ℕ) (k : ℕ) (route line : List ℕ) → Words log → Words route → BenchSized route log → length line ≤ 112 →
-      Put 0 (turnLines (take n log)) old at mid → Put at (routeLine (take k route)) mid end near → Put end line near r new →
-      Texts (turnLines (take n log) ++ (routeLine (take k route) ++ line)) old r new
-  two-lines n log k route line words words′ lent few first second third =
-      record {
-        put = then-put first (then-put second third);
-        few =
-            omega (
-              arith,
-              turns-few n log words (lent .short-log),
-              route-few k route words′ (lent .short-route),
-              first .next,
-              second .next,
-              third .next,
-            );
-      }
+pub after-turns :
+    {old : List ℕ} {at : ℕ} {mid : List ℕ} {r : ℕ} {new : List ℕ} (n : ℕ) (log line : List ℕ) → Words log → length log ≤ logSize → r ≤ at + maxEnd →
+    Put 0 (turnLines (take n log)) old at mid → Put at line mid r new → Texts (turnLines (take n log) ++ line) old r new
+after-turns n log line words short few first second =
+    record { put = then-put first second; few = omega (arith, turns-few n log words short, first .next) }
+
+-- ---- the text of an explanation
+
+module _ (n : ℕ) (l : List ℕ) (words : Words l) where
+  pub reach-few : length l ≤ maxJobVertices → length (reachLine (take n l)) ≤ 6 + routeSize * 11
+  reach-few h =
+      let few : length (take n l) ≤ maxJobVertices = shown-few n l words maxJobVertices h in
+      omega (arith, length-reach-line 10 (omega arith) (take n l) (λ i b. omega (arith, shown-word n l words i b)))
+
+pub edges-few :
+    (edges : List Edge) (js : List ℕ) → length js ≤ maxJobEdges → ((i : ℕ) → i < length js → length (edgeLine edges 0 (getD js i 0)) ≤ 88) →
+    length (each (edgeLine edges) 0 js) ≤ maxJobEdges * 88
+unfolding edgeLine
+edges-few edges js few h = omega (arith, length-each (edgeLine edges) 88 0 js h)
 
 -- ---- a buffer that has room for every text
 

@@ -12,6 +12,7 @@ use Rattle.graph.specs.declared.Edge.{Edge}
 use Rattle.graph.specs.declared.PlanRead.the-variants as checked
 use Rattle.graph.specs.Plan.{Decoded, accepted, refused, decode, sizes}
 use Rattle.graph.specs.Lists.{Fault, none, fault}
+use Rattle.text.specs.Text.{each, turnLines}
 use Rattle.search.specs.Call.{row, first, endsRow, tablesRow, scheduleRow, memoryRow, goalRow, edgesRow, faultIn, faultOf}
 use Rattle.search.specs.Outcome.{figures, answerIn, answer}
 use Rattle.job.specs.declared.Front.{Front}
@@ -19,7 +20,7 @@ use Rattle.job.specs.declared.JobRead.the-variants.{Accepted, Refused}
 use Rattle.job.specs.Front.{front}
 use Rattle.job.specs.Reading.{maxJobBytes, maxJobEdges, planOf, tableCount, afterPlan, afterFront, jobRead}
 use Rattle.job.specs.Asked.{tablesOf, anchorOf, sheetsOf, routeSize, workSize, wideSize, zeros, callWith, callAsked}
-use Rattle.job.specs.Printed.{ending, printed, callText, textOf}
+use Rattle.job.specs.Printed.{turns, lastLines, printed, callText, textOf}
 use Rattle.job.specs.Refusals.{Own, ends, schedule, goal, edge, OwnRefusals, PlanRefusals}
 use Rattle.job.proofs.Accepted.{Ready, accepted-ready}
 
@@ -117,5 +118,5 @@ plan-refusals =
 
 -- the call on such a plan is refused in the words of the job
 pub plan-text : (s : List ℕ) (f : Front) (v n p : ℕ) → decode (planOf s f) ≡ refused n p → textOf s (Refused n p) ≡ textOf s (Accepted f v)
-unfolding textOf callText printed ending figures answer answerIn faultOf faultIn callAsked callWith
+unfolding textOf callText printed lastLines turns turnLines each figures answer answerIn faultOf faultIn callAsked callWith
 plan-text s f v n p d = rw d

@@ -4,6 +4,7 @@ pub mod Front
 pub mod Reading
 pub mod Asked
 pub mod Printed
+pub mod Explained
 pub mod Texts
 pub mod JobA
 pub mod Refusals

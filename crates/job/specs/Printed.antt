@@ -16,17 +16,16 @@ use Rattle.job.specs.Asked.{callAsked}
 unfoldable pub turns : Figures → List ℕ → List ℕ
 turns f log = turnLines (take (f .turns) log)
 
--- the turn lines, then the route line and the end line, or `no route turns T` or `unfinished turns T`; a refusal is only `refused N at P`
-unfoldable pub ending : Ending → Figures → List ℕ → List ℕ → List ℕ
-ending route f kept log =
-    turns f log ++ (routeLine (take (f .length) kept) ++ endLine (f .cost) (f .rounds) (f .turns) (f .bound))
-ending noRoute f kept log = turns f log ++ noRouteLine (f .turns)
-ending unfinished f kept log = turns f log ++ unfinishedLine (f .turns)
-ending refused f kept log = refusedLine (f .number) (f .position)
+-- how a text ends: the route line and the end line, or `no route turns T`, `unfinished turns T` or `refused N at P`
+unfoldable pub lastLines : Ending → Figures → List ℕ → List ℕ
+lastLines route f kept = routeLine (take (f .length) kept) ++ endLine (f .cost) (f .rounds) (f .turns) (f .bound)
+lastLines noRoute f kept = noRouteLine (f .turns)
+lastLines unfinished f kept = unfinishedLine (f .turns)
+lastLines refused f kept = refusedLine (f .number) (f .position)
 
--- what is printed of an answer's figures, route memory and log memory
+-- what is printed of an answer's figures, route memory and log memory: the turn lines, of which a refusal has none, and how it ends
 unfoldable pub printed : Figures → List ℕ → List ℕ → List ℕ
-printed f kept log = ending (f .ending) f kept log
+printed f kept log = turns f log ++ lastLines (f .ending) f kept
 
 unfoldable pub callText : Call → List ℕ
 callText c = printed (figures (answer c)) (memoryAfter c .route) (memoryAfter c .log)

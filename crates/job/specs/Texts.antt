@@ -10,9 +10,13 @@ use Rattle.job.specs.Reading.{jobRead}
 use Rattle.job.specs.Asked.{routeSize, logSize, callAsked}
 use Rattle.job.specs.Printed.{benchText, EveryTurn}
 
--- no text is longer: a turn line for each log word, the route line, the end line
+-- no text ends longer: the route line, the end line
+abbrev pub maxEnd : ℕ
+maxEnd = 6 + routeSize * 11 + 112
+
+-- no text is longer: a turn line for each log word, and how it ends (the lines of an explanation are fewer)
 abbrev pub maxText : ℕ
-maxText = logSize * 35 + (6 + routeSize * 11) + 112
+maxText = logSize * 35 + maxEnd
 
 -- a text is put at the buffer's front, as far as there is room, and is no longer than that
 pub record Texts (text old : List ℕ) (r : ℕ) (new : List ℕ) : Type 0 where

@@ -1,9 +1,10 @@
-// The lines of a search's turns and of its route, put into a lent buffer from an offset on as far as there is room.
+// The lines of a search's turns, of its route and of what can be reached, put into a lent buffer from an offset on as
+// far as there is room.
 ghost use Prim.Native.Nat.{min};
 ghost use mathlib.Core.Path.{_≡_};
 ghost use lib.ListN.{take};
 ghost use Rattle.text.specs.Laid.{Put, Counted};
-ghost use Rattle.text.specs.Text.{ascii, field, turnLine, loggedLine, turnLines, vertices, routeLine};
+ghost use Rattle.text.specs.Text.{ascii, field, turnLine, loggedLine, turnLines, vertices, verticesLine, routeLine, reachLine};
 use crate::buffer;
 
 // A turn: its number, its heuristic (table) and the vertex expanded.
@@ -41,26 +42,48 @@ fn put_logged_line(out: &mut [u8], at: usize, number: usize, word: u32) -> usize
     put_turn_line(out, at, number as u64, shown / 65536, shown % 65536)
 }
 
-// A route (its vertices): the first `count` of its slice, or all that there are.
+// A word, and vertices after it: the first `count` of a slice, or all that there are.
+fn put_vertices_line(
+    out: &mut [u8],
+    at: usize,
+    word: &[u8],
+    list: &[u32],
+    count: usize,
+) -> usize
+    requires { ⌜ Counted at (verticesLine (now word) (take count (now list))) ⌝ }
+    ensures { λ r. ⌜ Put at (verticesLine (now (word .entry)) (take count (now (list .entry)))) (now (out .entry)) r (now (out .exit)) ⌝ }
+{
+    let after_word = buffer::put_word(out, at, word);
+    let end = put_vertices(out, after_word, list, count);
+    buffer::put_byte(out, end, b'\n')
+}
+
+// A route (its vertices): the first `count` of its slice.
 pub fn put_route_line(out: &mut [u8], at: usize, route: &[u32], count: usize) -> usize
     requires { ⌜ Counted at (routeLine (take count (now route))) ⌝ }
     ensures { λ r. ⌜ Put at (routeLine (take count (now (route .entry)))) (now (out .entry)) r (now (out .exit)) ⌝ }
 {
-    let after_word = buffer::put_word(out, at, b"route");
-    let end = put_vertices(out, after_word, route, count);
-    buffer::put_byte(out, end, b'\n')
+    put_vertices_line(out, at, b"route", route, count)
 }
 
-// The vertices of a route, each after a space.
-fn put_vertices(out: &mut [u8], at: usize, route: &[u32], count: usize) -> usize
-    requires { ⌜ Counted at (vertices (take count (now route))) ⌝ }
-    ensures { λ r. ⌜ Put at (vertices (take count (now (route .entry)))) (now (out .entry)) r (now (out .exit)) ⌝ }
+// The vertices that can be reached: the first `count` of their slice.
+pub fn put_reach_line(out: &mut [u8], at: usize, set: &[u32], count: usize) -> usize
+    requires { ⌜ Counted at (reachLine (take count (now set))) ⌝ }
+    ensures { λ r. ⌜ Put at (reachLine (take count (now (set .entry)))) (now (out .entry)) r (now (out .exit)) ⌝ }
 {
-    let shown = lesser(count, route.len());
+    put_vertices_line(out, at, b"reach", set, count)
+}
+
+// The vertices of a list, each after a space.
+fn put_vertices(out: &mut [u8], at: usize, list: &[u32], count: usize) -> usize
+    requires { ⌜ Counted at (vertices (take count (now list))) ⌝ }
+    ensures { λ r. ⌜ Put at (vertices (take count (now (list .entry)))) (now (out .entry)) r (now (out .exit)) ⌝ }
+{
+    let shown = lesser(count, list.len());
     let mut next = at;
     let mut i = 0;
     while i < shown {
-        next = put_vertex(out, next, route[i]);
+        next = put_vertex(out, next, list[i]);
         i += 1;
     }
     next
@@ -75,7 +98,7 @@ fn put_vertex(out: &mut [u8], at: usize, vertex: u32) -> usize
 }
 
 // The lesser of two numbers.
-fn lesser(a: usize, b: usize) -> usize
+pub fn lesser(a: usize, b: usize) -> usize
     ensures { λ r. ⌜ r ≡ min a b ⌝ }
 {
     if a < b { a } else { b }

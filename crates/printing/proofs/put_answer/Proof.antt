@@ -1,6 +1,7 @@
 -- `put_answer` meets its contract, by the answer's cases.
+use Rattle.text.specs.Text.{each, turnLines}
 use Rattle.search.specs.Outcome.{figures}
-use Rattle.job.specs.Printed.{turns, ending, printed}
+use Rattle.job.specs.Printed.{turns, lastLines, printed}
 use borrow.Author.Needs.{needs}
 use Rattle.printing.proofs.put_answer.Statement.{statement}
 use Rattle.printing.proofs.put_answer.Tie as tie
@@ -51,7 +52,7 @@ same-length-4 : tie.Need-same-length-4
 same-length-4 c = search needs
 
 returns-4 : tie.Need-returns-4
-unfolding printed ending turns figures
+unfolding printed lastLines turns turnLines each figures
 returns-4 c = rw (c .before .before .before .before .before .answer4 .given .1) (c .before .before .put-refused .ensures)
 
 pub put-answer-spec : {M : Type 1} → statement M

@@ -2,8 +2,8 @@
 use native.Mathlib.Omega.{arith}
 use Rattle.text.specs.Text.{ascii, noRouteLine}
 use Rattle.search.specs.Outcome.{figures}
-use Rattle.job.specs.Printed.{turns, ending, printed}
-use Rattle.job.proofs.Lines.{turns-few, no-route-few, one-line}
+use Rattle.job.specs.Printed.{turns, lastLines, printed}
+use Rattle.job.proofs.Lines.{turns-few, no-route-few, after-turns}
 use borrow.Author.Needs.{needs}
 use Rattle.printing.proofs.put_no_route.Statement.{statement}
 use Rattle.printing.proofs.put_no_route.Tie as tie
@@ -25,12 +25,12 @@ same-length : tie.Need-same-length
 same-length c = search needs
 
 returns : tie.Need-returns
-unfolding printed ending turns figures ascii noRouteLine
+unfolding printed lastLines turns figures ascii noRouteLine
 returns c =
     let k = c .before .before .before .before .before .before .before .before .before in
     let a = k .before .before .before in
     let few = no-route-few (a .args .turns) (omega arith) in
-    one-line (a .args .turns) (a .args .log .now) _ (k .shared-slice-known2 .given) (a .pre .short-log) (omega arith) (c .before .before .before .before .before .before .before .put-turn-lines .ensures) (c .before .before .put-turns-line .ensures)
+    after-turns (a .args .turns) (a .args .log .now) _ (k .shared-slice-known2 .given) (a .pre .short-log) (omega (arith, few, c .before .before .put-turns-line .ensures .next)) (c .before .before .before .before .before .before .before .put-turn-lines .ensures) (c .before .before .put-turns-line .ensures)
 
 pub put-no-route-spec : {M : Type 1} → statement M
 put-no-route-spec =

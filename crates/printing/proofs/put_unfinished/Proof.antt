@@ -2,8 +2,8 @@
 use native.Mathlib.Omega.{arith}
 use Rattle.text.specs.Text.{ascii, unfinishedLine}
 use Rattle.search.specs.Outcome.{figures}
-use Rattle.job.specs.Printed.{turns, ending, printed}
-use Rattle.job.proofs.Lines.{turns-few, unfinished-few, one-line}
+use Rattle.job.specs.Printed.{turns, lastLines, printed}
+use Rattle.job.proofs.Lines.{turns-few, unfinished-few, after-turns}
 use borrow.Author.Needs.{needs}
 use Rattle.printing.proofs.put_unfinished.Statement.{statement}
 use Rattle.printing.proofs.put_unfinished.Tie as tie
@@ -25,12 +25,12 @@ same-length : tie.Need-same-length
 same-length c = search needs
 
 returns : tie.Need-returns
-unfolding printed ending turns figures ascii unfinishedLine
+unfolding printed lastLines turns figures ascii unfinishedLine
 returns c =
     let k = c .before .before .before .before .before .before .before .before .before in
     let a = k .before .before .before in
     let few = unfinished-few (a .args .turns) (omega arith) in
-    one-line (a .args .turns) (a .args .log .now) _ (k .shared-slice-known2 .given) (a .pre .short-log) (omega arith) (c .before .before .before .before .before .before .before .put-turn-lines .ensures) (c .before .before .put-turns-line .ensures)
+    after-turns (a .args .turns) (a .args .log .now) _ (k .shared-slice-known2 .given) (a .pre .short-log) (omega (arith, few, c .before .before .put-turns-line .ensures .next)) (c .before .before .before .before .before .before .before .put-turn-lines .ensures) (c .before .before .put-turns-line .ensures)
 
 pub put-unfinished-spec : {M : Type 1} → statement M
 put-unfinished-spec =
