@@ -5,7 +5,7 @@ use mathlib.Core.Path.{_≡_, refl, sym, ap, _∙_, subst}
 use mathlib.Core.Bool.{Bool, true, false, true≢false, cond, _||_}
 use mathlib.Core.List.{List, [], _∷_, _++_, append-nil}
 use lib.ListN.{length, take, drop}
-use lib.Seq.{take-all, take-length, drop-length}
+use lib.Seq.{take-all, take-length, take-append-seam, drop-length}
 use lib.Dec.{ltb}
 use borrow.Author.Tests.{lt-ltb, le-ltb, ltb-false}
 use Rattle.graph.specs.declared.Edge.{Edge}
@@ -21,35 +21,36 @@ use Rattle.search.specs.declared.Answer.the-variants.{Route, NoRoute, Unfinishe
 use Rattle.search.specs.declared.Explanation.{Explanation}
 use Rattle.search.specs.Call.{Memory, Call, scheduleOf, row, first, endsRow, tablesRow, memoryRow, goalRow, anchorRows, faultIn, faultOf, planEdges, jobIn, jobFrom, jobOf}
 use Rattle.search.specs.Admitted.{Admitted}
-use Rattle.search.specs.Outcome.{workWords, wideWords, answerIn, answer, memoryIn, memoryAfter}
+use Rattle.search.specs.Outcome.{workWords, wideWords, noRoute, figures, answerIn, answer, memoryIn, memoryAfter}
 use Rattle.search.proofs.Admitted.{exact, plan-edges}
-use Rattle.search.specs.Reason.{Inquiry, listsRow, inquiryFaultIn, inquiryFault, answered, callMemory, numbersOf, isReached, leaves, lastVertices, reachable, leaving, listedAt, verticesListed, edgesListed, explanation, Room}
-use Rattle.search.proofs.Guarantee.{guaranteed}
+use Rattle.search.specs.Reason.{Inquiry, listsRow, inquiryFaultIn, inquiryFault, answered, callMemory, numbersOf, isReached, leaves, lastVertices, reached, leaving, listedAt, verticesListed, edgesListed, explanation, verticesAfter, edgesAfter, Reason, ListRoom}
+use Rattle.search.proofs.Guarantee.{guaranteed, any-rule}
+use Rattle.search.proofs.Reason as reason
 use Rattle.search.proofs.Reason.{own, roomy, unrefused, sized, reasoned}
 use Rattle.search.proofs.Numbers.{numbers-few}
 use Rattle.workspace.specs.declared.Size.{Size}
 use Rattle.workspace.specs.Layout as layout
 use Rattle.workspace.specs.Layout.{base, Words, verticesOf, graphOf}
-use Rattle.workspace.specs.Holds.{Holds}
+use Rattle.workspace.specs.Holds.{Rising, Holds}
 use Rattle.admission.proofs.Admits.{accepted-header}
 use Rattle.planner.specs.Plan.{memoryOf, Planned}
 use Rattle.planner.specs.Carried.{wordsOf}
 use Rattle.workspace.proofs.Written.{length-verticesOf}
 use Rattle.workspace.proofs.Holding.{accepted-rising, holds-vertices, holds-graph, holds-ready, holds-whole}
 use Rattle.explanation.specs.Explained.{Explained}
-use Rattle.explanation.specs.Listing.{sizeIn, endsWithout, Held, Listable, reachedIn, leavingIn, Lists}
+use Rattle.explanation.specs.Listing.{sizeIn, isNoRoute, Held, Listable, reachedIn, leavingIn, Lists}
 
 -- ---- the lists after a call
 
-listed : (a : Answer) (l : List ℕ) → endsWithout a ≡ true → listedAt a l ≡ l
-unfolding endsWithout listedAt
+listed : (a : Answer) (l : List ℕ) → isNoRoute a ≡ true → listedAt a l ≡ l
+unfolding isNoRoute listedAt
 listed (Route s) l h = absurd (true≢false (sym h))
 listed (NoRoute t) l h = refl
 listed (Unfinished t) l h = absurd (true≢false (sym h))
 listed (Refused n p) l h = absurd (true≢false (sym h))
 
-unlisted : (a : Answer) (l : List ℕ) → endsWithout a ≡ false → listedAt a l ≡ []
-unfolding endsWithout listedAt
+unlisted : (a : Answer) (l : List ℕ) → isNoRoute a ≡ false → listedAt a l ≡ []
+unfolding isNoRoute listedAt
 unlisted (Route s) l h = refl
 unlisted (NoRoute t) l h = absurd (true≢false h)
 unlisted (Unfinished t) l h = refl
@@ -64,7 +65,7 @@ put-over {new} {old} p h = (
 )
 
 module _ (a : Answer) (z : Size) (barred : ℕ) (m : Words) (vertices edges : List ℕ) where
-  pub nothing-listed : endsWithout a ≡ false → Lists a z barred m vertices edges (record { answer = a; vertices = 0; edges = 0 }) vertices edges
+  pub nothing-listed : isNoRoute a ≡ false → Lists a z barred m vertices edges (record { answer = a; vertices = 0; edges = 0 }) vertices edges
   unfolding reachedIn leavingIn over
   nothing-listed h =
       let v = unlisted a (numbersOf isReached 0 (verticesOf z m)) h in
@@ -72,7 +73,7 @@ module _ (a : Answer) (z : Size) (barred : ℕ) (m : Words) (vertices edges : Li
       record { answer-is = refl; vertex-count = rw v; edge-count = rw e; vertices-are = rw v; edges-are = rw e }
 
   pub both-listed :
-      endsWithout a ≡ true → Held z m vertices edges → (v e : ℕ) (vertices′ edges′ : List ℕ) → Put 0 (numbersOf isReached 0 (verticesOf z m)) vertices v vertices′ →
+      isNoRoute a ≡ true → Held z m vertices edges → (v e : ℕ) (vertices′ edges′ : List ℕ) → Put 0 (numbersOf isReached 0 (verticesOf z m)) vertices v vertices′ →
       Put 0 (numbersOf (leaves barred (verticesOf z m)) 0 (graphOf z (m .work))) edges e edges′ →
       Lists a z barred m vertices edges (record { answer = a; vertices = v; edges = e }) vertices′ edges′
   unfolding reachedIn leavingIn
@@ -90,10 +91,10 @@ module _ (a : Answer) (z : Size) (barred : ℕ) (m : Words) (vertices edges : Li
       }
 
 -- two answers list the same
-same-listed : (a b : Answer) (l k : List ℕ) → a ≡ b → (endsWithout a ≡ true → l ≡ k) → listedAt a l ≡ listedAt b k
-same-listed a b l k q f = by (endsWithout a) refl ∙ ap (λ (y : Answer). listedAt y k) q
+same-listed : (a b : Answer) (l k : List ℕ) → a ≡ b → (isNoRoute a ≡ true → l ≡ k) → listedAt a l ≡ listedAt b k
+same-listed a b l k q f = by (isNoRoute a) refl ∙ ap (λ (y : Answer). listedAt y k) q
   where
-    by : (t : Bool) → endsWithout a ≡ t → listedAt a l ≡ listedAt a k
+    by : (t : Bool) → isNoRoute a ≡ t → listedAt a l ≡ listedAt a k
     by true e = ap (listedAt a) (f e)
     by false e = unlisted a l e ∙ sym (unlisted a k e)
 
@@ -145,13 +146,63 @@ module _ (x : Inquiry) (z : Size) (size-is : z ≡ sizeIn (header (x .call .byte
   record Answers (a : Answer) (m : Memory) : Type 0 where
     answer-is : a ≡ answered x
     memory-is : m ≡ callMemory x
-    held : endsWithout a ≡ true → Held z (wordsOf m) (x .vertices) (x .edges)
-    vertices : endsWithout a ≡ true → verticesOf z (wordsOf m) ≡ lastVertices c
-    edges : endsWithout a ≡ true → graphOf z (m .work) ≡ planEdges c
+    held : isNoRoute a ≡ true → Held z (wordsOf m) (x .vertices) (x .edges)
+    vertices : isNoRoute a ≡ true → verticesOf z (wordsOf m) ≡ lastVertices c
+    edges : isNoRoute a ≡ true → graphOf z (m .work) ≡ planEdges c
 
   size-of : (y : Admitted c) → jobOf c .size ≡ y .size
   unfolding jobOf jobFrom jobIn
   size-of y = rw (y .plan)
+
+  -- ---- memory after a call that is not refused holds the plan's edges and the vertices at the end of the search
+
+  module _ (e : inquiryFault x ≡ none) (m : Memory) (q : m ≡ memoryAfter c) where
+    f : faultOf c ≡ none
+    f = unrefused x e
+
+    abbrev y : Admitted c
+    y = exact c .0 f
+
+    size-there : z ≡ record { vertices = y .size; edges = length (y .edges) }
+    size-there = size-is ∙ header-size (c .bytes) (y .size) (y .edges) (y .plan)
+
+    plan-is : planEdges c ≡ y .edges
+    plan-is = plan-edges c (y .size) (y .edges) (y .plan)
+
+    vertex-count : z .vertices ≡ y .size
+    vertex-count = ap (λ (u : Size). u .vertices) size-there
+
+    edge-count : z .edges ≡ length (y .edges)
+    edge-count = ap (λ (u : Size). u .edges) size-there
+
+    work-is : m .work ≡ over (workWords (jobOf c .size) (planEdges c) (lastVertices c)) (c .memory .work)
+    unfolding memoryAfter memoryIn lastVertices
+    work-is = ap (λ (u : Memory). u .work) q ∙ rw f refl
+
+    wide-is : m .wide ≡ over (wideWords (lastVertices c)) (c .memory .wide)
+    unfolding memoryAfter memoryIn lastVertices
+    wide-is = ap (λ (u : Memory). u .wide) q ∙ rw f refl
+
+    room-there : layout.Room z (wordsOf (c .memory))
+    unfolding base
+    room-there =
+        record {
+          work = omega (arith, y .fits .work-room, vertex-count, edge-count);
+          wide = omega (arith, y .fits .wide-room, vertex-count);
+        }
+
+    pub holds : Holds z (planEdges c) (lastVertices c) (wordsOf (c .memory)) (wordsOf m)
+    holds =
+        record {
+          words = work-is ∙ ap (λ (v : ℕ). over (workWords v (planEdges c) (lastVertices c)) (c .memory .work)) (size-of y ∙ sym vertex-count);
+          numbers = wide-is;
+          room = room-there;
+          vertices = sized x e ∙ size-of y ∙ sym vertex-count;
+          edges = ap length plan-is ∙ sym edge-count;
+          rising =
+              subst (λ (es : List Edge). Rising (z .vertices) 0 es) (sym plan-is)
+              (subst (λ (v : ℕ). Rising v 0 (y .edges)) (sym vertex-count) (accepted-rising (c .bytes) (y .size) (y .edges) (y .plan)));
+        }
 
   -- ---- both lists have room
 
@@ -164,7 +215,7 @@ module _ (x : Inquiry) (z : Size) (size-is : z ≡ sizeIn (header (x .call .byte
     room-by (accepted v es) d = rw (size-is, header-size (c .bytes) v es d) at rooms
     room-by (refused n p) d = (omega arith, omega arith)
 
-    room : Room x
+    room : ListRoom x
     unfolding jobOf planEdges
     room = let r = room-by (decode (c .bytes)) refl in record { vertices = r .0; edges = r .1 }
 
@@ -173,56 +224,16 @@ module _ (x : Inquiry) (z : Size) (size-is : z ≡ sizeIn (header (x .call .byte
 
     module _ (a : Answer) (m : Memory) (k : Planned c a m) where
       -- where there is no route, the call is not refused
-      not-refused : endsWithout a ≡ true → faultOf c ≡ none
-      unfolding answer endsWithout answerIn
-      not-refused e = by (faultOf c) refl (subst (λ (y : Answer). endsWithout y ≡ true) (k .answers) e)
+      not-refused : isNoRoute a ≡ true → faultOf c ≡ none
+      unfolding answer isNoRoute answerIn
+      not-refused e = by (faultOf c) refl (subst (λ (y : Answer). isNoRoute y ≡ true) (k .answers) e)
         where
-          by : (f : Fault) → faultOf c ≡ f → endsWithout (answerIn c f) ≡ true → faultOf c ≡ none
+          by : (f : Fault) → faultOf c ≡ f → isNoRoute (answerIn c f) ≡ true → faultOf c ≡ none
           by none g t = g
           by (fault n p) g t = absurd (true≢false (sym t))
 
-      module _ (f : faultOf c ≡ none) where
-        abbrev y : Admitted c
-        y = exact c .0 f
-
-        size-there : z ≡ record { vertices = y .size; edges = length (y .edges) }
-        size-there = size-is ∙ header-size (c .bytes) (y .size) (y .edges) (y .plan)
-
-        plan-is : planEdges c ≡ y .edges
-        plan-is = plan-edges c (y .size) (y .edges) (y .plan)
-
-        vertex-count : z .vertices ≡ y .size
-        vertex-count = ap (λ (u : Size). u .vertices) size-there
-
-        edge-count : z .edges ≡ length (y .edges)
-        edge-count = ap (λ (u : Size). u .edges) size-there
-
-        work-is : m .work ≡ over (workWords (jobOf c .size) (planEdges c) (lastVertices c)) (c .memory .work)
-        unfolding memoryAfter memoryIn lastVertices
-        work-is = ap (λ (u : Memory). u .work) (k .memory-is) ∙ rw f refl
-
-        wide-is : m .wide ≡ over (wideWords (lastVertices c)) (c .memory .wide)
-        unfolding memoryAfter memoryIn lastVertices
-        wide-is = ap (λ (u : Memory). u .wide) (k .memory-is) ∙ rw f refl
-
-        room-there : layout.Room z (wordsOf (c .memory))
-        unfolding base
-        room-there =
-            record {
-              work = omega (arith, y .fits .work-room, vertex-count, edge-count);
-              wide = omega (arith, y .fits .wide-room, vertex-count);
-            }
-
-        holds : Holds z (planEdges c) (lastVertices c) (wordsOf (c .memory)) (wordsOf m)
-        holds =
-            record {
-              words = work-is ∙ ap (λ (v : ℕ). over (workWords v (planEdges c) (lastVertices c)) (c .memory .work)) (size-of y ∙ sym vertex-count);
-              numbers = wide-is;
-              room = room-there;
-              vertices = sized x (same-fault ∙ f) ∙ size-of y ∙ sym vertex-count;
-              edges = ap length plan-is ∙ sym edge-count;
-              rising = rw (plan-is, vertex-count) (accepted-rising (c .bytes) (y .size) (y .edges) (y .plan));
-            }
+      holds-here : isNoRoute a ≡ true → Holds z (planEdges c) (lastVertices c) (wordsOf (c .memory)) (wordsOf m)
+      holds-here e = holds (same-fault ∙ not-refused e) m (k .memory-is)
 
       answers-here : Answers a m
       unfolding answered callMemory answer memoryAfter
@@ -231,7 +242,7 @@ module _ (x : Inquiry) (z : Size) (size-is : z ≡ sizeIn (header (x .call .byte
             answer-is = k .answers ∙ ap (answerIn c) (sym same-fault);
             memory-is = k .memory-is ∙ ap (memoryIn c) (sym same-fault);
             held = λ e.
-                let o = holds (not-refused e) in
+                let o = holds-here e in
                 record {
                   ready = holds-ready z _ _ _ _ o;
                   whole = holds-whole z _ _ _ _ o;
@@ -239,8 +250,8 @@ module _ (x : Inquiry) (z : Size) (size-is : z ≡ sizeIn (header (x .call .byte
                   vertices-room = rooms .0;
                   edges-room = rooms .1;
                 };
-            vertices = λ e. holds-vertices z _ _ _ _ (holds (not-refused e));
-            edges = λ e. holds-graph z _ _ _ _ (holds (not-refused e));
+            vertices = λ e. holds-vertices z _ _ _ _ (holds-here e);
+            edges = λ e. holds-graph z _ _ _ _ (holds-here e);
           }
 
     -- all of route memory is lent on
@@ -254,47 +265,29 @@ module _ (x : Inquiry) (z : Size) (size-is : z ≡ sizeIn (header (x .call .byte
   -- ---- a list is too short: no route memory is lent on, and the call is refused as the inquiry is
 
   module _ (h : short ≡ true) where
-    -- the rows before 11, the call's own 11 or none, and 11
-    eleven : (p q r : Fault) (t : Bool) (ss us : List Fault) → first (p ∷ q ∷ r ∷ row t 11 0 ∷ fault 11 0 ∷ ss) ≡ first (p ∷ q ∷ r ∷ fault 11 0 ∷ us)
-    unfolding first row
-    eleven (fault i j) q r t ss us = refl
-    eleven none (fault i j) r t ss us = refl
-    eleven none none (fault i j) t ss us = refl
-    eleven none none none true ss us = refl
-    eleven none none none false ss us = refl
-
-    short-by : (v : ℕ) (es : List Edge) → decode (c .bytes) ≡ accepted v es → listsRow x v (length es) ≡ fault 11 0
-    unfolding listsRow row
-    short-by v es d = rw (rw (size-is, header-size (c .bytes) v es d) at h)
-
-    none-lent : (v m : ℕ) → 1 ≤ v → memoryRow (lentTo 0 c) v m ≡ fault 11 0
-    unfolding memoryRow row
-    none-lent v m l = rw (lt-ltb 0 v l)
-
-    fault-by : (d : Decoded) → decode (c .bytes) ≡ d → inquiryFaultIn x d ≡ faultIn (lentTo 0 c) d
-    unfolding inquiryFaultIn faultIn endsRow tablesRow scheduleOf goalRow
-    fault-by (accepted v es) d =
-        rw (short-by v es d, none-lent v (length es) (accepted-within (c .bytes) v es d .some))
-        (unfold memoryRow in (eleven _ _ _ _ (anchorRows c es) (anchorRows c es)))
-    fault-by (refused n p) d = refl
+    not-roomy : (v : ℕ) (es : List Edge) → decode (c .bytes) ≡ accepted v es → ListRoom x → ⊥
+    unfolding jobOf jobFrom jobIn
+    not-roomy v es d r =
+        let s : z ≡ record { vertices = v; edges = length es } = size-is ∙ header-size (c .bytes) v es d in
+        let size : jobOf c .size ≡ v = rw d in
+        let l : z .vertices ≤ length (x .vertices) = omega (arith, ap (λ (u : Size). u .vertices) s, size, r .vertices) in
+        let m : z .edges ≤ length (x .edges) = omega (arith, ap (λ (u : Size). u .edges) s, ap length (plan-edges c v es d), r .edges) in
+        true≢false (sym h ∙ or-false _ _ (le-ltb _ _ l) (le-ltb _ _ m))
 
     same-refusal : inquiryFault x ≡ faultOf (lentTo 0 c)
-    unfolding inquiryFault faultOf
-    same-refusal = fault-by (decode (c .bytes)) refl
+    unfolding inquiryFault inquiryFaultIn faultOf faultIn
+    same-refusal = by (decode (c .bytes)) refl
+      where
+        by : (d : Decoded) → decode (c .bytes) ≡ d → inquiryFault x ≡ faultOf (lentTo 0 c)
+        by (accepted v es) d = reason.short x (not-roomy v es d)
+        by (refused n p) d = rw d
 
     some-fault : inquiryFault x ≡ none → ⊥
-    some-fault e =
-        let r : Room x = roomy x e in
-        let y : Admitted c = exact c .0 (unrefused x e) in
-        let s = size-is ∙ header-size (c .bytes) (y .size) (y .edges) (y .plan) in
-        let v : z .vertices ≤ length (x .vertices) = omega (arith, ap (λ (u : Size). u .vertices) s, size-of y, r .vertices) in
-        let w : z .edges ≤ length (x .edges)
-        = omega (arith, ap (λ (u : Size). u .edges) s, ap length (plan-edges c (y .size) (y .edges) (y .plan)), r .edges) in
-        true≢false (sym h ∙ or-false _ _ (le-ltb _ _ v) (le-ltb _ _ w))
+    some-fault e = let y : Admitted c = exact c .0 (unrefused x e) in not-roomy (y .size) (y .edges) (y .plan) (roomy x e)
 
     module _ (a : Answer) (m : Memory) (k : Planned (lentTo 0 c) a m) where
       refused-there : (f : Fault) → inquiryFault x ≡ f → faultOf (lentTo 0 c) ≡ f → Answers a (withRest 0 c m)
-      unfolding answered callMemory answer memoryAfter answerIn memoryIn endsWithout
+      unfolding answered callMemory answer memoryAfter answerIn memoryIn isNoRoute
       refused-there none e g = absurd (some-fault e)
       refused-there (fault n p) e g =
           let q : a ≡ Refused n p = k .answers ∙ rw g refl in
@@ -302,9 +295,9 @@ module _ (x : Inquiry) (z : Size) (size-is : z ≡ sizeIn (header (x .call .byte
           record {
             answer-is = q ∙ rw e refl;
             memory-is = ap (withRest 0 c) u ∙ rw e refl;
-            held = λ t. absurd (true≢false (sym t ∙ ap endsWithout q));
-            vertices = λ t. absurd (true≢false (sym t ∙ ap endsWithout q));
-            edges = λ t. absurd (true≢false (sym t ∙ ap endsWithout q));
+            held = λ t. absurd (true≢false (sym t ∙ ap isNoRoute q));
+            vertices = λ t. absurd (true≢false (sym t ∙ ap isNoRoute q));
+            edges = λ t. absurd (true≢false (sym t ∙ ap isNoRoute q));
           }
 
   -- ---- in either case
@@ -333,7 +326,7 @@ module _ (x : Inquiry) (z : Size) (size-is : z ≡ sizeIn (header (x .call .byte
 
       module _ (r : Explanation) (vertices edges : List ℕ) (l : Lists a z (c .barred) (wordsOf m) (x .vertices) (x .edges) r vertices edges) where
         vertices-same : reachedIn a z (wordsOf m) ≡ verticesListed x
-        unfolding reachedIn verticesListed reachable
+        unfolding reachedIn verticesListed reached
         vertices-same =
             same-listed a (answered x) _ _ (answers .answer-is) (λ e. ap (λ (st : List Vertex). numbersOf isReached 0 st) (answers .vertices e))
 
@@ -345,15 +338,38 @@ module _ (x : Inquiry) (z : Size) (size-is : z ≡ sizeIn (header (x .call .byte
             ap (λ (st : List Vertex). numbersOf (leaves (c .barred) st) 0 (graphOf z (m .work))) (answers .vertices e)
             ∙ ap (λ (es : List Edge). numbersOf (leaves (c .barred) (lastVertices c)) 0 es) (answers .edges e))
 
-        pub explained : Explained x r (withRest n c m) vertices edges
+        answers-are : r ≡ explanation x
         unfolding explanation
+        answers-are =
+            same-explanation (l .answer-is ∙ answers .answer-is) (l .vertex-count ∙ ap length vertices-same) (l .edge-count ∙ ap length edges-same)
+
+        vertices-there : vertices ≡ verticesAfter x
+        unfolding verticesAfter
+        vertices-there = l .vertices-are ∙ ap (λ (new : List ℕ). over new (x .vertices)) vertices-same
+
+        edges-there : edges ≡ edgesAfter x
+        unfolding edgesAfter
+        edges-there = l .edges-are ∙ ap (λ (new : List ℕ). over new (x .edges)) edges-same
+
+        says : figures (r .answer) .ending ≡ noRoute →
+            Reason (jobOf c) (c .barred) (planEdges c) (take (r .vertices) vertices) (take (r .edges) edges)
+        unfolding verticesAfter edgesAfter over explanation
+        says e =
+            let v : take (r .vertices) vertices ≡ verticesListed x
+            = ap (λ (u : Explanation). take (u .vertices) vertices) answers-are ∙ ap (take (length (verticesListed x))) vertices-there ∙ take-append-seam (verticesListed x) _ in
+            let w : take (r .edges) edges ≡ edgesListed x
+            = ap (λ (u : Explanation). take (u .edges) edges) answers-are ∙ ap (take (length (edgesListed x))) edges-there ∙ take-append-seam (edgesListed x) _ in
+            rw (v, w) (reasoned x .reason (ap (λ (u : Explanation). figures (u .answer) .ending) (sym answers-are) ∙ e))
+
+        pub explained : Explained x r (withRest n c m) vertices edges
         explained =
             record {
-              answers =
-                  same-explanation (l .answer-is ∙ answers .answer-is) (l .vertex-count ∙ ap length vertices-same) (l .edge-count ∙ ap length edges-same);
+              answers = answers-are;
               memory-is = answers .memory-is;
-              vertices-are = l .vertices-are ∙ ap (λ (new : List ℕ). over new (x .vertices)) vertices-same;
-              edges-are = l .edges-are ∙ ap (λ (new : List ℕ). over new (x .edges)) edges-same;
+              vertices-are = vertices-there;
+              edges-are = edges-there;
               reasoned = reasoned x;
+              says = says;
               promise = guaranteed c;
+              any-rule = any-rule c;
             }

@@ -20,12 +20,12 @@ unfoldable pub sizeIn : Header → Size
 sizeIn (Counts v m at) = record { vertices = v; edges = m }
 sizeIn (the-variants.Refused n p) = record { vertices = 0; edges = 0 }
 
--- there is no route
-unfoldable pub endsWithout : Answer → Bool
-endsWithout (Route s) = false
-endsWithout (NoRoute t) = true
-endsWithout (Unfinished t) = false
-endsWithout (Refused n p) = false
+-- the answer is no route
+unfoldable pub isNoRoute : Answer → Bool
+isNoRoute (Route s) = false
+isNoRoute (NoRoute t) = true
+isNoRoute (Unfinished t) = false
+isNoRoute (Refused n p) = false
 
 -- memory from which lists are made, and room for them
 pub record Held (z : Size) (m : Words) (vertices edges : List ℕ) : Type 0 where
@@ -37,7 +37,7 @@ pub record Held (z : Size) (m : Words) (vertices edges : List ℕ) : Type 0 wher
 
 -- what is asked after a call with this answer
 abbrev pub Listable : Answer → Size → Words → List ℕ → List ℕ → Type 0
-Listable a z m vertices edges = endsWithout a ≡ true → Held z m vertices edges
+Listable a z m vertices edges = isNoRoute a ≡ true → Held z m vertices edges
 
 -- what is listed then
 unfoldable pub reachedIn : Answer → Size → Words → List ℕ

@@ -1,4 +1,4 @@
-// The reason for "no route": a planner call made once more, and where it ends without a route, the vertices (places)
+// The reason for "no route": a planner call made once more, and where its answer is no route, the vertices (places)
 // that can be reached, and the barred edges (lanes) that leave them.
 mod edges;
 mod lists;
@@ -11,14 +11,14 @@ ghost use Rattle.graph.specs.Plan.{header};
 ghost use Rattle.workspace.specs.Layout.{mem};
 ghost use Rattle.planner.specs.Plan.{memoryOf, callOf};
 ghost use Rattle.explanation.specs.Explained.{inquiryOf, Explained};
-ghost use Rattle.explanation.specs.Listing.{sizeIn, endsWithout, Listable, Lists};
+ghost use Rattle.explanation.specs.Listing.{sizeIn, isNoRoute, Listable, Lists};
 use graph::Header;
 use search::Answer;
 use search::Explanation;
 use workspace::Size;
 
-// V and M of a plan; none where its header is refused.
-fn size(bytes: &[u8]) -> Size
+// V and M of a plan; 0 and 0 where its header is refused.
+pub fn size(bytes: &[u8]) -> Size
     ensures { λ r. ⌜ r ≡ sizeIn (header (now (bytes .entry))) ⌝ }
 {
     match plan_check::header(bytes) {
@@ -44,9 +44,9 @@ fn route_lent(z: Size, route: usize, vertices: usize, edges: usize) -> usize
     route
 }
 
-// Whether there is no route.
-fn ends_without(answer: Answer) -> bool
-    ensures { λ r. ⌜ r ≡ endsWithout answer ⌝ }
+// Whether the answer is no route.
+fn is_no_route(answer: Answer) -> bool
+    ensures { λ r. ⌜ r ≡ isNoRoute answer ⌝ }
 {
     match answer {
         Answer::Route(_) => false,
@@ -69,7 +69,7 @@ fn list(
     requires { ⌜ Listable answer z (mem (now work) (now wide)) (now vertices) (now edges) ⌝ }
     ensures { λ r. ⌜ Lists answer z barred (mem (now (work .entry)) (now (wide .entry))) (now (vertices .entry)) (now (edges .entry)) r (now (vertices .exit)) (now (edges .exit)) ⌝ }
 {
-    if !ends_without(answer) {
+    if !is_no_route(answer) {
         return Explanation {
             answer,
             vertices: 0,

@@ -124,9 +124,7 @@ pub fn put_explanation(
     let answer = explanation.answer;
     match answer {
         Answer::Route(summary) => put_route_end(out, 0, summary, route),
-        Answer::NoRoute(turns) => {
-            put_reason(out, turns, explanation, work, z, vertices, edges)
-        }
+        Answer::NoRoute(turns) => { put_reason(out, turns, explanation, work, z, vertices, edges) }
         Answer::Unfinished(turns) => {
             end_lines::put_turns_line(out, 0, b"unfinished turns ", turns as u64)
         }

@@ -43,13 +43,7 @@ fn put_logged_line(out: &mut [u8], at: usize, number: usize, word: u32) -> usize
 }
 
 // A word, and vertices after it: the first `count` of a slice, or all that there are.
-fn put_vertices_line(
-    out: &mut [u8],
-    at: usize,
-    word: &[u8],
-    list: &[u32],
-    count: usize,
-) -> usize
+fn put_vertices_line(out: &mut [u8], at: usize, word: &[u8], list: &[u32], count: usize) -> usize
     requires { ⌜ Counted at (verticesLine (now word) (take count (now list))) ⌝ }
     ensures { λ r. ⌜ Put at (verticesLine (now (word .entry)) (take count (now (list .entry)))) (now (out .entry)) r (now (out .exit)) ⌝ }
 {

@@ -1,7 +1,7 @@
 -- Why there is no route: what is listed is what a walk leads to, and the barred edges that leave it; and when an inquiry is refused.
 use mathlib.Core.Path.{_≡_, refl, sym, ap, _∙_, subst}
 use mathlib.Core.Logic.{_↔_}
-use mathlib.Core.Bool.{Bool, true, false, true≢false, not, _&&_, _||_}
+use mathlib.Core.Bool.{Bool, true, false, true≢false, cond, not, _&&_, _||_}
 use mathlib.Core.List.{List, [], _∷_, _++_, List·Memᴰ}
 use Prim.Native.Nat.{ℕ, zero, suc, _+_, _≤_, _<_}
 use native.Mathlib.Nat.{zero-add, not-suc-le-zero, le-of-suc-le-suc}
@@ -14,7 +14,8 @@ use Rattle.graph.specs.declared.Edge.{Edge}
 use Rattle.graph.specs.Plan.{Decoded, accepted, refused, decode}
 use Rattle.graph.specs.Lists.{Fault, none, fault, edgesIn}
 use Rattle.graph.proofs.Plan.{fault≢none}
-use Rattle.graph.proofs.Tests.{and-true, true-and, not-true}
+use Rattle.graph.proofs.Tests.{and-true, not-true}
+use Rattle.graph.proofs.Within.{accepted-within}
 use Rattle.search.specs.declared.Vertex.{Vertex}
 use Rattle.search.specs.declared.Answer.{Answer}
 use Rattle.search.specs.declared.Answer.the-variants.{NoRoute, Unfinished, Refused}
@@ -24,10 +25,10 @@ use Rattle.search.specs.Walk.{Walk, NoWalk, here}
 use Rattle.search.specs.Permitted.{barredBy}
 use Rattle.search.specs.Job.{Job, unreached, fresh, at}
 use Rattle.search.specs.Rounds.{begin, run, search}
-use Rattle.search.specs.Call.{Call, row, first, callRows, anchorRows, faultIn, faultOf, planEdges, jobIn, jobFrom, jobOf}
+use Rattle.search.specs.Call.{Call, scheduleOf, row, first, endsRow, tablesRow, memoryRow, goalRow, callRows, anchorRows, faultIn, faultOf, planEdges, jobIn, jobFrom, jobOf}
 use Rattle.search.specs.Admitted.{Admitted}
 use Rattle.search.specs.Outcome.{noRoute, figures, outcome, answerOf, answerIn, answer, memoryIn, memoryAfter}
-use Rattle.search.specs.Reason.{Inquiry, listsRow, inquiryFaultIn, inquiryFault, answered, callMemory, numbersOf, isReached, leaves, lastVertices, reachable, leaving, listedAt, verticesListed, edgesListed, Leaves, Reason, Room, Reasoned}
+use Rattle.search.specs.Reason.{Inquiry, listsRow, inquiryFaultIn, inquiryFault, answered, callMemory, numbersOf, isReached, leaves, lastVertices, reached, leaving, listedAt, verticesListed, edgesListed, Leaves, Reason, ListRoom, withoutRoute, Reasoned}
 use Rattle.search.proofs.Tools.{le-cases, reached-inside}
 use Rattle.search.proofs.Facts.{Valid}
 use Rattle.search.proofs.Paths.{further, path-of, walk-of}
@@ -121,7 +122,7 @@ module _ (job : Job) (v : Valid job) (n : ℕ) (stuck : run job n (begin job) .s
             walks (e .head) .1 (_, s .route, s .walk);
         walks = walks;
         rising = numbers-rise isReached 0 st;
-        exact = leaves-exact st b es;
+        leaves = leaves-exact st b es;
         in-order = numbers-rise (leaves b st) 0 es;
       }
 
@@ -163,16 +164,51 @@ module _ (x : Inquiry) where
   room-by (accepted v es) h = clear-lists v (length es) (clear-row (listsRow x v (length es)) (anchorRows c es) (callRows c v (length es)) h)
   room-by (refused n p) h = absurd (fault≢none h)
 
-  pub own : Room x → inquiryFault x ≡ faultOf c
+  pub own : ListRoom x → inquiryFault x ≡ faultOf c
   unfolding inquiryFault faultOf jobOf planEdges
   own r = own-by (decode (c .bytes)) (r .vertices) (r .edges)
 
-  pub roomy : inquiryFault x ≡ none → Room x
+  pub roomy : inquiryFault x ≡ none → ListRoom x
   unfolding inquiryFault jobOf planEdges
   roomy h = let r = room-by (decode (c .bytes)) h in record { vertices = r .0; edges = r .1 }
 
   pub unrefused : inquiryFault x ≡ none → faultOf c ≡ none
   unrefused h = sym (own (roomy h)) ∙ h
+
+  -- a list is too short: the rows before 11, the call's own 11 or none, and 11
+  eleven : (p q r : Fault) (t : Bool) (ss us : List Fault) → first (p ∷ q ∷ r ∷ row t 11 0 ∷ fault 11 0 ∷ ss) ≡ first (p ∷ q ∷ r ∷ fault 11 0 ∷ us)
+  unfolding first row
+  eleven (fault i j) q r t ss us = refl
+  eleven none (fault i j) r t ss us = refl
+  eleven none none (fault i j) t ss us = refl
+  eleven none none none true ss us = refl
+  eleven none none none false ss us = refl
+
+  none-lent : (v m : ℕ) → 1 ≤ v → memoryRow (withoutRoute c) v m ≡ fault 11 0
+  unfolding memoryRow row
+  none-lent v m l = rw (lt-ltb 0 v l)
+
+  lists-short : (v m : ℕ) → ((v ≤ length (x .vertices)) × (m ≤ length (x .edges)) → ⊥) → listsRow x v m ≡ fault 11 0
+  unfolding listsRow row
+  lists-short v m n = by (ltb (length (x .vertices)) v) (ltb (length (x .edges)) m) refl refl
+    where
+      by : (a b : Bool) → ltb (length (x .vertices)) v ≡ a → ltb (length (x .edges)) m ≡ b → cond (a || b) (fault 11 0) none ≡ fault 11 0
+      by true b e f = refl
+      by false true e f = refl
+      by false false e f = absurd (n (ltb-false _ _ e, ltb-false _ _ f))
+
+  short-by :
+      (d : Decoded) → decode (c .bytes) ≡ d → ((jobFrom c d .size ≤ length (x .vertices)) × (length (edgesIn d) ≤ length (x .edges)) → ⊥) →
+      inquiryFaultIn x d ≡ faultIn (withoutRoute c) d
+  unfolding inquiryFaultIn faultIn endsRow tablesRow scheduleOf goalRow jobFrom jobIn edgesIn
+  short-by (accepted v es) d n =
+      rw (lists-short v (length es) n, none-lent v (length es) (accepted-within (c .bytes) v es d .some))
+      (unfold memoryRow in (eleven _ _ _ _ (anchorRows c es) (anchorRows c es)))
+  short-by (refused i p) d n = refl
+
+  pub short : (ListRoom x → ⊥) → inquiryFault x ≡ faultOf (withoutRoute c)
+  unfolding inquiryFault faultOf jobOf planEdges
+  short n = short-by (decode (c .bytes)) refl (λ r. n (record { vertices = r .0; edges = r .1 }))
 
   refusal : (n p : ℕ) → inquiryFault x ≡ fault n p → (answered x ≡ Refused n p) × (callMemory x ≡ c .memory)
   unfolding answered callMemory answerIn memoryIn
@@ -223,15 +259,15 @@ module _ (x : Inquiry) where
     unfolding lastVertices outcome search
     sized = between (jobOf c) valid (run-good (jobOf c) valid (c .budget) (begin (jobOf c)) (begin-good (jobOf c) valid) .ok .reach) .ground .sized
 
-    reason-of : figures (answer c) .ending ≡ noRoute → Reason (jobOf c) (c .barred) (planEdges c) (reachable c) (leaving c)
-    unfolding reachable leaving lastVertices outcome search answer answerIn NoWalk
+    reason-of : figures (answer c) .ending ≡ noRoute → Reason (jobOf c) (c .barred) (planEdges c) (reached c) (leaving c)
+    unfolding reached leaving lastVertices outcome search answer answerIn NoWalk
     reason-of h =
         let v : Valid (jobOf c) = valid in
         let stuck = by-none (jobOf c) v (c .budget) (answerOf (jobOf c) (run (jobOf c) (c .budget) (begin (jobOf c)))) (ended (jobOf c) _) (rw (unrefused e) at h) in
         reason-at (jobOf c) v (c .budget) stuck (guaranteed c .guarantee (unrefused e) .no-walk h) (c .barred) (planEdges c)
 
-    list-rooms : (length (reachable c) ≤ length (x .vertices)) × (length (leaving c) ≤ length (x .edges))
-    unfolding reachable leaving
+    list-rooms : (length (reached c) ≤ length (x .vertices)) × (length (leaving c) ≤ length (x .edges))
+    unfolding reached leaving
     list-rooms = (
       omega (arith, numbers-few isReached 0 (lastVertices c), sized, roomy e .vertices),
       omega (arith, numbers-few (leaves (c .barred) (lastVertices c)) 0 (planEdges c), roomy e .edges),
@@ -241,15 +277,15 @@ module _ (x : Inquiry) where
   unfolding verticesListed edgesListed
   reason h =
       let e : inquiryFault x ≡ none = no-fault h in
-      rw (listed-all (answered x) (reachable c) h, listed-all (answered x) (leaving c) h) (reason-of e (rw (same e .0) at h))
+      rw (listed-all (answered x) (reached c) h, listed-all (answered x) (leaving c) h) (reason-of e (rw (same e .0) at h))
 
-  room : (length (verticesListed x) ≤ length (x .vertices)) × (length (edgesListed x) ≤ length (x .edges))
+  fits : (length (verticesListed x) ≤ length (x .vertices)) × (length (edgesListed x) ≤ length (x .edges))
   unfolding verticesListed edgesListed answered
-  room = by (inquiryFault x) refl
+  fits = by (inquiryFault x) refl
     where
-      by : (f : Fault) → inquiryFault x ≡ f → (length (listedAt (answerIn c f) (reachable c)) ≤ length (x .vertices)) × (length (listedAt (answerIn c f) (leaving c)) ≤ length (x .edges))
+      by : (f : Fault) → inquiryFault x ≡ f → (length (listedAt (answerIn c f) (reached c)) ≤ length (x .vertices)) × (length (listedAt (answerIn c f) (leaving c)) ≤ length (x .edges))
       by none e = (
-        omega (arith, listed-few (answerIn c none) (reachable c), list-rooms e .0),
+        omega (arith, listed-few (answerIn c none) (reached c), list-rooms e .0),
         omega (arith, listed-few (answerIn c none) (leaving c), list-rooms e .1),
       )
       by (fault n p) e = unfold answerIn listedAt in (omega arith, omega arith)
@@ -262,9 +298,10 @@ reasoned x =
         λ y. own x (y .1) ∙ exact (x .call) .1 (y .0),
       );
       own = own x;
+      short = short x;
       refusal = refusal x;
       same = same x;
       reason = reason x;
-      silent = λ h. unfold verticesListed edgesListed in (listed-none x (answered x) (reachable (x .call)) h, listed-none x (answered x) (leaving (x .call)) h);
-      room = room x;
+      silent = λ h. unfold verticesListed edgesListed in (listed-none x (answered x) (reached (x .call)) h, listed-none x (answered x) (leaving (x .call)) h);
+      fits = fits x;
     }

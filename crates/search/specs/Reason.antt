@@ -1,5 +1,5 @@
--- The explanation of "no route" (E8): a planner call made once more, and what holds the tug up: the vertices (places) that it can reach, and the
--- barred edges (lanes) that leave them.
+-- The explanation of "no route" (E8): a planner call made once more, and where its answer is no route, the vertices (places) that the tug can reach
+-- and the barred edges (lanes) that leave them.
 use Prim.Native.Nat.{ℕ, suc, _≤_, _<_}
 use mathlib.Core.Path.{_≡_}
 use mathlib.Core.Logic.{_↔_}
@@ -29,7 +29,7 @@ pub record Inquiry : Type 0 where
   -- for the barred edges that leave them
   pub edges : List ℕ
 
--- ---- refusals: those of the call
+-- ---- refusals: those of the call, and one more row
 
 -- 11 also: fewer than V words for the vertices, or M for the edges
 unfoldable pub listsRow : Inquiry → ℕ → ℕ → Fault
@@ -44,11 +44,11 @@ inquiryFaultIn x (accepted v es) =
 unfoldable pub inquiryFault : Inquiry → Fault
 inquiryFault x = inquiryFaultIn x (decode (x .call .bytes))
 
--- what the call answers, refused as the inquiry is
+-- the call's answer, or the inquiry's refusal
 unfoldable pub answered : Inquiry → Answer
 answered x = answerIn (x .call) (inquiryFault x)
 
--- memory lent for the call is as the call leaves it
+-- the call's memory then: as the call leaves it; untouched where the inquiry is refused
 unfoldable pub callMemory : Inquiry → Memory
 callMemory x = memoryIn (x .call) (inquiryFault x)
 
@@ -71,14 +71,15 @@ leaves b st e = barredBy b (e .class) && isReached (at st (e .tail)) && not (isR
 unfoldable pub lastVertices : Call → List Vertex
 lastVertices c = outcome c .final .state .vertices
 
-unfoldable pub reachable : Call → List ℕ
-reachable c = numbersOf isReached 0 (lastVertices c)
+-- those that are reached: where the answer is no route, all that can be (`walks`)
+unfoldable pub reached : Call → List ℕ
+reached c = numbersOf isReached 0 (lastVertices c)
 
--- edge numbers are those of all edges in plan order
+-- the edges that leave them, by their numbers among all edges in plan order
 unfoldable pub leaving : Call → List ℕ
 leaving c = numbersOf (leaves (c .barred) (lastVertices c)) 0 (planEdges c)
 
--- nothing is listed unless there is no route
+-- nothing is listed unless the answer is no route
 unfoldable pub listedAt : Answer → List ℕ → List ℕ
 listedAt (Route s) l = []
 listedAt (NoRoute t) l = l
@@ -86,15 +87,22 @@ listedAt (Unfinished t) l = []
 listedAt (Refused n p) l = []
 
 unfoldable pub verticesListed : Inquiry → List ℕ
-verticesListed x = listedAt (answered x) (reachable (x .call))
+verticesListed x = listedAt (answered x) (reached (x .call))
 
 unfoldable pub edgesListed : Inquiry → List ℕ
 edgesListed x = listedAt (answered x) (leaving (x .call))
 
--- ---- what is handed over; each list stands over what was there
+-- ---- what is handed over
 
 unfoldable pub explanation : Inquiry → Explanation
 explanation x = record { answer = answered x; vertices = length (verticesListed x); edges = length (edgesListed x) }
+
+-- each list stands over what was there
+unfoldable pub verticesAfter : Inquiry → List ℕ
+verticesAfter x = over (verticesListed x) (x .vertices)
+
+unfoldable pub edgesAfter : Inquiry → List ℕ
+edgesAfter x = over (edgesListed x) (x .edges)
 
 -- ---- what the lists are, so that neither has to be believed
 
@@ -110,37 +118,59 @@ pub record Leaves (barred : ℕ) (edges : List Edge) (set : List ℕ) (j : ℕ) 
   pub inside : List·Memᴰ (edge .tail) set
   pub outside : List·Memᴰ (edge .head) set → ⊥
 
--- why the job has no route: the set, and the barred edges of the plan that leave it
+-- why the job, whose edges are those of the plan that are permitted (`Guaranteed`'s `edges`), has no route: the set, and the barred edges of the
+-- plan that leave it
 pub record Reason (job : Job) (barred : ℕ) (edges : List Edge) (set leaving : List ℕ) : Type 0 where
   pub start : List·Memᴰ (job .start) set
   pub goal : List·Memᴰ (job .goal) set → ⊥
   -- no permitted edge leaves the set
   pub closed : (e : Edge) → List·Memᴰ e (job .edges) → List·Memᴰ (e .tail) set → List·Memᴰ (e .head) set
-  -- a walk leads to a vertex exactly if it is in the set
+  -- a vertex is in the set exactly if a walk over permitted edges leads to it from the start
   pub walks : (x : ℕ) → List·Memᴰ x set ↔ ((n : ℕ) × (r : List ℕ) × Walk (job .edges) (job .start) x r n)
   pub rising : Rises set
-  pub exact : (j : ℕ) → List·Memᴰ j leaving ↔ Leaves barred edges set j
+  -- an edge is listed exactly if it is barred and leaves the set
+  pub leaves : (j : ℕ) → List·Memᴰ j leaving ↔ Leaves barred edges set j
   pub in-order : Rises leaving
 
 -- ---- the claim
 
--- the lists have room: for a refused plan there is nothing to list
-pub record Room (x : Inquiry) : Type 0 where
+-- V words for the vertices and M for the edges; a refused plan, whose refusal comes first, needs none
+pub record ListRoom (x : Inquiry) : Type 0 where
   pub vertices : jobOf (x .call) .size ≤ length (x .vertices)
   pub edges : length (planEdges (x .call)) ≤ length (x .edges)
 
+-- the call, lent no route memory
+abbrev pub withoutRoute : Call → Call
+withoutRoute c =
+    record {
+      bytes = c .bytes;
+      start = c .start;
+      goal = c .goal;
+      barred = c .barred;
+      anchor = c .anchor;
+      sheets = c .sheets;
+      count = c .count;
+      schedule = c .schedule;
+      defaultSchedule = c .defaultSchedule;
+      budget = c .budget;
+      memory = record { route = []; log = c .memory .log; work = c .memory .work; wide = c .memory .wide };
+    }
+
 -- of one inquiry
 pub record Reasoned (x : Inquiry) : Type 0 where
-  -- refused as the call is, and with 11 also where a list is too short: under these conditions and no other
-  pub exact : inquiryFault x ≡ none ↔ (Admitted (x .call) × Room x)
-  pub own : Room x → inquiryFault x ≡ faultOf (x .call)
+  -- not refused exactly if the call is admitted and both lists have room
+  pub exact : inquiryFault x ≡ none ↔ (Admitted (x .call) × ListRoom x)
+  -- with room for the lists a refusal is the call's own; too short a list counts as route memory of no words does: 11 at 0, unless a row
+  -- before 11 applies
+  pub own : ListRoom x → inquiryFault x ≡ faultOf (x .call)
+  pub short : (ListRoom x → ⊥) → inquiryFault x ≡ faultOf (withoutRoute (x .call))
   pub refusal : (n p : ℕ) → inquiryFault x ≡ fault n p → (answered x ≡ Refused n p) × (callMemory x ≡ x .call .memory)
   -- else answer and memory are those of the call, of which its guarantee speaks
   pub same : inquiryFault x ≡ none → (answered x ≡ answer (x .call)) × (callMemory x ≡ memoryAfter (x .call))
-  -- no route: the lists say why; else they are empty, and stand as they were
+  -- the answer is no route: the lists say why; else nothing is listed, and so lent lists are as they were
   pub reason :
       figures (answered x) .ending ≡ noRoute →
       Reason (jobOf (x .call)) (x .call .barred) (planEdges (x .call)) (verticesListed x) (edgesListed x)
   pub silent : (figures (answered x) .ending ≡ noRoute → ⊥) → (verticesListed x ≡ []) × (edgesListed x ≡ [])
-  -- both lists have room for what is listed
-  pub room : (length (verticesListed x) ≤ length (x .vertices)) × (length (edgesListed x) ≤ length (x .edges))
+  -- what is listed has room
+  pub fits : (length (verticesListed x) ≤ length (x .vertices)) × (length (edgesListed x) ≤ length (x .edges))
