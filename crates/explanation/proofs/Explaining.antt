@@ -102,6 +102,18 @@ same-explanation : {a b : Answer} {v w e f : ℕ} → a ≡ b → v ≡ w → e 
     _≡_ {A = Explanation} (record { answer = a; vertices = v; edges = e }) (record { answer = b; vertices = w; edges = f })
 same-explanation p q r = rw (p, q, r)
 
+-- ---- the first words of both lists, as many as are answered
+
+module _ (x : Inquiry) (r : Explanation) (vertices edges : List ℕ) (e : r ≡ explanation x) where
+  pub taken-vertices : vertices ≡ verticesAfter x → take (r .vertices) vertices ≡ verticesListed x
+  unfolding verticesAfter over explanation
+  taken-vertices v =
+      ap (λ (u : Explanation). take (u .vertices) vertices) e ∙ ap (take (length (verticesListed x))) v ∙ take-append-seam (verticesListed x) _
+
+  pub taken-edges : edges ≡ edgesAfter x → take (r .edges) edges ≡ edgesListed x
+  unfolding edgesAfter over explanation
+  taken-edges w = ap (λ (u : Explanation). take (u .edges) edges) e ∙ ap (take (length (edgesListed x))) w ∙ take-append-seam (edgesListed x) _
+
 -- ---- V and M
 
 module _ (s : List ℕ) (v : ℕ) (es : List Edge) (d : decode s ≡ accepted v es) where
@@ -353,13 +365,10 @@ module _ (x : Inquiry) (z : Size) (size-is : z ≡ sizeIn (header (x .call .byte
 
         says : figures (r .answer) .ending ≡ noRoute →
             Reason (jobOf c) (c .barred) (planEdges c) (take (r .vertices) vertices) (take (r .edges) edges)
-        unfolding verticesAfter edgesAfter over explanation
+        unfolding explanation
         says e =
-            let v : take (r .vertices) vertices ≡ verticesListed x
-            = ap (λ (u : Explanation). take (u .vertices) vertices) answers-are ∙ ap (take (length (verticesListed x))) vertices-there ∙ take-append-seam (verticesListed x) _ in
-            let w : take (r .edges) edges ≡ edgesListed x
-            = ap (λ (u : Explanation). take (u .edges) edges) answers-are ∙ ap (take (length (edgesListed x))) edges-there ∙ take-append-seam (edgesListed x) _ in
-            rw (v, w) (reasoned x .reason (ap (λ (u : Explanation). figures (u .answer) .ending) (sym answers-are) ∙ e))
+            rw (taken-vertices x r vertices edges answers-are vertices-there, taken-edges x r vertices edges answers-are edges-there)
+            (reasoned x .reason (ap (λ (u : Explanation). figures (u .answer) .ending) (sym answers-are) ∙ e))
 
         pub explained : Explained x r (withRest n c m) vertices edges
         explained =

@@ -3,7 +3,8 @@
 ghost use mathlib.Core.Path.{_≡_};
 ghost use Rattle.planner.specs.Plan.{memoryOf, callOf};
 ghost use Rattle.explanation.specs.Explained.{inquiryOf};
-ghost use Rattle.job.specs.Texts.{Prints};
+ghost use Rattle.job.specs.Explained.{explainText};
+ghost use Rattle.job.specs.Texts.{Texts, Prints};
 ghost use Rattle.schedule.specs.DefaultSchedule.{initial, loading};
 ghost use Rattle.ffi_planner.specs.Calls.{answerFigures, Exported};
 ghost use Rattle.ffi_planner.specs.Explanations.{explanationFigures, ExportedReason};
@@ -178,4 +179,12 @@ pub extern "C" fn secondcoop_bench_text(job: &[u8], text: &mut [u8]) -> usize
     ensures { λ r. ⌜ Prints (now (job .entry)) (now (text .entry)) r (now (text .exit)) ⌝ }
 {
     bench_text::bench_text(job, text)
+}
+
+// The lines of a job's explanation.
+#[no_mangle]
+pub extern "C" fn secondcoop_explain_text(job: &[u8], text: &mut [u8]) -> usize
+    ensures { λ r. ⌜ Texts (explainText (now (job .entry))) (now (text .entry)) r (now (text .exit)) ⌝ }
+{
+    bench_text::explain_text(job, text)
 }

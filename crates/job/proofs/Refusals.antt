@@ -1,9 +1,9 @@
 -- A job is refused for the faults of its plan, and the call of an accepted one for its own rows alone.
 use Prim.Native.Nat.{ℕ, suc, _+_, _*_, _≤_}
 use native.Mathlib.Omega.{arith}
-use mathlib.Core.Path.{_≡_, ap, subst, _∙_}
+use mathlib.Core.Path.{_≡_, sym, ap, subst, _∙_}
 use mathlib.Core.Bool.{Bool, true, false, cond}
-use mathlib.Core.List.{List, [], _∷_}
+use mathlib.Core.List.{List, [], _∷_, append-nil}
 use lib.ListN.{length, getD, take, drop, length-drop}
 use lib.Seq.{length-take-le}
 use lib.Dec.{ltb}
@@ -12,15 +12,17 @@ use Rattle.graph.specs.declared.Edge.{Edge}
 use Rattle.graph.specs.declared.PlanRead.the-variants as checked
 use Rattle.graph.specs.Plan.{Decoded, accepted, refused, decode, sizes}
 use Rattle.graph.specs.Lists.{Fault, none, fault}
-use Rattle.text.specs.Text.{each, turnLines}
+use Rattle.text.specs.Text.{each, turnLines, refusedLine}
 use Rattle.search.specs.Call.{row, first, endsRow, tablesRow, scheduleRow, memoryRow, goalRow, edgesRow, faultIn, faultOf}
 use Rattle.search.specs.Outcome.{figures, answerIn, answer}
+use Rattle.search.specs.Reason.{inquiryFaultIn, inquiryFault, answered}
 use Rattle.job.specs.declared.Front.{Front}
 use Rattle.job.specs.declared.JobRead.the-variants.{Accepted, Refused}
 use Rattle.job.specs.Front.{front}
 use Rattle.job.specs.Reading.{maxJobBytes, maxJobEdges, planOf, tableCount, afterPlan, afterFront, jobRead}
 use Rattle.job.specs.Asked.{tablesOf, anchorOf, sheetsOf, routeSize, workSize, wideSize, zeros, callWith, callAsked}
 use Rattle.job.specs.Printed.{turns, lastLines, printed, callText, textOf}
+use Rattle.job.specs.Explained.{inquiryAsked, reasonLines, inquiryText, explainedAs}
 use Rattle.job.specs.Refusals.{Own, ends, schedule, goal, edge, OwnRefusals, PlanRefusals}
 use Rattle.job.proofs.Accepted.{Ready, accepted-ready}
 
@@ -120,3 +122,7 @@ plan-refusals =
 pub plan-text : (s : List ℕ) (f : Front) (v n p : ℕ) → decode (planOf s f) ≡ refused n p → textOf s (Refused n p) ≡ textOf s (Accepted f v)
 unfolding textOf callText printed lastLines turns turnLines each figures answer answerIn faultOf faultIn callAsked callWith
 plan-text s f v n p d = rw d
+
+pub plan-explained : (s : List ℕ) (f : Front) (v n p : ℕ) → decode (planOf s f) ≡ refused n p → explainedAs s (Refused n p) ≡ explainedAs s (Accepted f v)
+unfolding explainedAs inquiryText inquiryAsked answered inquiryFault inquiryFaultIn answerIn figures lastLines reasonLines callAsked callWith
+plan-explained s f v n p d = rw d (sym (append-nil (refusedLine n p)))

@@ -25,8 +25,9 @@ use Rattle.job.specs.declared.JobRead.the-variants.{Accepted, Refused}
 use Rattle.job.specs.Front.{front}
 use Rattle.job.specs.Reading.{maxJobBytes, planOf, afterSizes, afterPlan, afterFront, jobRead}
 use Rattle.job.specs.Printed.{textOf, benchText}
+use Rattle.job.specs.Explained.{explainedAs, explainText}
 use Rattle.job.proofs.Accepted.{Parts, parts-of}
-use Rattle.job.proofs.Refusals.{plan-text}
+use Rattle.job.proofs.Refusals.{plan-text, plan-explained}
 use Rattle.job_reader.specs.ButEdges.{edgesFirst, orEdges, afterCounts, butEdges, readButEdges}
 
 -- the plan's edges refuse the job
@@ -108,20 +109,29 @@ module _ (s : List ℕ) where
   unfolding readButEdges jobRead
   read-as = read-as-by (ltb maxJobBytes (length s))
 
--- ---- its text is the whole job's
+-- ---- its texts are the whole job's
 
-module _ (s : List ℕ) where
-  asked-text : (f : Front) (v : ℕ) → (jobRead s ≡ Accepted f v) ⊎ EdgesRefuse s f (jobRead s) → textOf s (jobRead s) ≡ textOf s (Accepted f v)
-  asked-text f v (inl e) = ap (textOf s) e
-  asked-text f v (inr e) = ap (textOf s) (e .is) ∙ plan-text s f v (e .number) (e .position) (e .plan)
+-- a text of the job read, which is the same for a plan that is refused and for the call on it
+module _ (s : List ℕ) (text : JobRead → List ℕ)
+    (same : (f : Front) (v n p : ℕ) → decode (planOf s f) ≡ refused n p → text (Refused n p) ≡ text (Accepted f v)) where
+  asked-text : (f : Front) (v : ℕ) → (jobRead s ≡ Accepted f v) ⊎ EdgesRefuse s f (jobRead s) → text (jobRead s) ≡ text (Accepted f v)
+  asked-text f v (inl e) = ap text e
+  asked-text f v (inr e) = ap text (e .is) ∙ same f v (e .number) (e .position) (e .plan)
 
-  text-by : (r : JobRead) → readButEdges s ≡ r → textOf s (jobRead s) ≡ textOf s r
+  text-by : (r : JobRead) → readButEdges s ≡ r → text (jobRead s) ≡ text r
   text-by (Accepted f v) e = asked-text f v (read-as s .accepted f v e .either)
-  text-by (Refused n p) e = ap (textOf s) (read-as s .refused n p e)
+  text-by (Refused n p) e = ap text (read-as s .refused n p e)
 
-  pub same-text : benchText s ≡ textOf s (readButEdges s)
-  unfolding benchText
-  same-text = text-by (readButEdges s) refl
+  either-text : text (jobRead s) ≡ text (readButEdges s)
+  either-text = text-by (readButEdges s) refl
+
+pub same-text : (s : List ℕ) → benchText s ≡ textOf s (readButEdges s)
+unfolding benchText
+same-text s = either-text s (textOf s) (plan-text s)
+
+pub same-explained : (s : List ℕ) → explainText s ≡ explainedAs s (readButEdges s)
+unfolding explainText
+same-explained s = either-text s (explainedAs s) (plan-explained s)
 
 -- ---- V, M and the tables, x; then the edges, read under any anchor table
 

@@ -247,7 +247,7 @@ module _ (x : Inquiry) where
   fault-none none e h = e
   fault-none (fault n p) e h = absurd (apart h tt)
 
-  no-fault : figures (answered x) .ending ≡ noRoute → inquiryFault x ≡ none
+  pub no-fault : figures (answered x) .ending ≡ noRoute → inquiryFault x ≡ none
   unfolding answered
   no-fault h = fault-none (inquiryFault x) refl h
 

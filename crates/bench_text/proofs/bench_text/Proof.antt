@@ -6,6 +6,7 @@ use Rattle.job.specs.Printed.{textOf, benchText}
 use Rattle.job.specs.Texts.{Texts, Prints}
 use Rattle.job.proofs.Turns.{every-turn}
 use Rattle.job_reader.proofs.ButEdges.{same-text}
+use Rattle.bench_text.specs.Stored.{textAsked}
 use borrow.Author.Needs.{needs}
 use Rattle.bench_text.proofs.bench_text.Statement.{statement}
 use Rattle.bench_text.proofs.bench_text.Tie as tie
@@ -32,7 +33,7 @@ same-length : tie.Need-same-length
 same-length c = search needs
 
 returns : tie.Need-returns
-unfolding textOf
+unfolding textOf textAsked
 returns c = printed (rw (same-text _, sym (c .before .before .before .before .before .before .before .read-but-edges .ensures) ∙ c .before .before .before .before .before .front .given .1) (c .before .before .plan-job .ensures))
 
 same-length-2 : tie.Need-same-length-2
