@@ -1,4 +1,5 @@
 // Job bytes to printed text, with a line for every turn or with the reason for "no route", in a lent buffer.
+mod explaining;
 mod planning;
 
 ghost use Rattle.job.specs.Explained.{explainText};

@@ -3,17 +3,16 @@ ghost use mathlib.Core.Path.{_≡_};
 ghost use Rattle.job.specs.declared.JobRead.the-variants.{Accepted};
 ghost use Rattle.job.specs.Asked.{callWith, callAsked};
 ghost use Rattle.job.specs.Printed.{callText};
-ghost use Rattle.job.specs.Explained.{inquiryAsked, inquiryText};
 ghost use Rattle.job.specs.Texts.{Texts};
 ghost use Rattle.job_reader.specs.ButEdges.{readButEdges};
 ghost use Rattle.bench_text.specs.Stored.{Stored, textAsked};
+use crate::explaining;
 use job::Front;
 use job_reader::storing;
 use schedule::default_schedule::DefaultSchedule;
 
 // Words of lent memory: a schedule of 16 rounds, an anchor table and 8 guide sheets of 256 numbers; route
-// memory, a log, work memory for 256 vertices and 2,048 edges, and the numbers of the wide work memory; an
-// explanation's lists.
+// memory, a log, work memory for 256 vertices and 2,048 edges, and the numbers of the wide work memory.
 const FACTORS: usize = 32;
 
 const TABLES: usize = 2304;
@@ -25,10 +24,6 @@ const LOG: usize = 8192;
 const WORK: usize = 6913;
 
 const WIDE: usize = 512;
-
-const VERTICES: usize = 256;
-
-const EDGES: usize = 2048;
 
 // The planner call on the standard default schedule, our six rounds, and what it hands over printed.
 fn plan_call(
@@ -68,49 +63,6 @@ fn plan_call(
     printing::put_answer(out, answer, &route, &log)
 }
 
-// The same call explained, and its explanation printed.
-fn explain_call(
-    out: &mut [u8],
-    plan: &[u8],
-    front: Front,
-    anchor: &[u32],
-    sheets: &[u32],
-    schedule: &[u32],
-) -> usize
-    ensures { λ r. ⌜ Texts (inquiryText (inquiryAsked (callWith (now (plan .entry)) front (now (anchor .entry)) (now (sheets .entry)) (now (schedule .entry))))) (now (out .entry)) r (now (out .exit)) ⌝ }
-{
-    let mut route = [0u32; ROUTE];
-    let mut log = [0u32; LOG];
-    let mut work = [0u32; WORK];
-    let mut wide = [0u64; WIDE];
-    let mut vertices = [0u32; VERTICES];
-    let mut edges = [0u32; EDGES];
-    let ends = front.ends;
-    let standard = DefaultSchedule::standard();
-    let numbers = standard.numbers;
-    let count = standard.count as usize;
-    let z = explanation::size(plan);
-    let explanation = explanation::explain(
-        plan,
-        ends.start,
-        ends.goal,
-        ends.barred,
-        anchor,
-        sheets,
-        front.guide_count,
-        schedule,
-        &numbers[..count],
-        ends.budget,
-        &mut route,
-        &mut log,
-        &mut work,
-        &mut wide,
-        &mut vertices,
-        &mut edges,
-    );
-    printing::put_explanation(out, explanation, &route, &work, z, &vertices, &edges)
-}
-
 // Such a job, its factors and tables stored: the call is made, or explained.
 fn plan_stored(
     out: &mut [u8],
@@ -131,7 +83,7 @@ fn plan_stored(
     let sheets = &tables[each..];
     let plan = &job[plan_at..plan_end];
     if explained {
-        return explain_call(out, plan, front, anchor, sheets, schedule);
+        return explaining::explain_call(out, plan, front, anchor, sheets, schedule);
     }
     plan_call(out, plan, front, anchor, sheets, schedule)
 }

@@ -23,7 +23,7 @@ use Rattle.search.specs.Call.{Memory, Call, scheduleOf, row, first, endsRow, ta
 use Rattle.search.specs.Admitted.{Admitted}
 use Rattle.search.specs.Outcome.{workWords, wideWords, noRoute, figures, answerIn, answer, memoryIn, memoryAfter}
 use Rattle.search.proofs.Admitted.{exact, plan-edges}
-use Rattle.search.specs.Reason.{Inquiry, listsRow, inquiryFaultIn, inquiryFault, answered, callMemory, numbersOf, isReached, leaves, lastVertices, reached, leaving, listedAt, verticesListed, edgesListed, explanation, verticesAfter, edgesAfter, Reason, ListRoom}
+use Rattle.search.specs.Reason.{Inquiry, listsRow, inquiryFaultIn, inquiryFault, answered, callMemory, numbersOf, isReached, leaves, lastVertices, reached, leaving, listedAt, verticesListed, edgesListed, explanation, verticesAfter, edgesAfter, Reason, ListRoom, lent}
 use Rattle.search.proofs.Guarantee.{guaranteed, any-rule}
 use Rattle.search.proofs.Reason as reason
 use Rattle.search.proofs.Reason.{own, roomy, unrefused, sized, reasoned}
@@ -123,20 +123,7 @@ module _ (s : List ℕ) (v : ℕ) (es : List Edge) (d : decode s ≡ accepted v 
 
 -- the call, lent this route memory
 abbrev lending : List ℕ → Call → Call
-lending route c =
-    record {
-      bytes = c .bytes;
-      start = c .start;
-      goal = c .goal;
-      barred = c .barred;
-      anchor = c .anchor;
-      sheets = c .sheets;
-      count = c .count;
-      schedule = c .schedule;
-      defaultSchedule = c .defaultSchedule;
-      budget = c .budget;
-      memory = memoryOf route (c .memory .log) (c .memory .work) (c .memory .wide);
-    }
+lending route c = lent c (memoryOf route (c .memory .log) (c .memory .work) (c .memory .wide))
 
 -- the call, lent n words of its route memory
 abbrev pub lentTo : ℕ → Call → Call
@@ -314,9 +301,9 @@ module _ (x : Inquiry) (z : Size) (size-is : z ≡ sizeIn (header (x .call .byte
 
   -- ---- in either case
 
-  module _ (n : ℕ) (lent : n ≡ cond short 0 (length (c .memory .route))) where
+  module _ (n : ℕ) (words : n ≡ cond short 0 (length (c .memory .route))) where
     pub lends : n ≤ length (c .memory .route)
-    lends = by short lent
+    lends = by short words
       where
         by : (b : Bool) → n ≡ cond b 0 (length (c .memory .route)) → n ≤ length (c .memory .route)
         by true e = omega arith
@@ -324,7 +311,7 @@ module _ (x : Inquiry) (z : Size) (size-is : z ≡ sizeIn (header (x .call .byte
 
     module _ (a : Answer) (m : Memory) (k : Planned (lentTo n c) a m) where
       answers : Answers a (withRest n c m)
-      answers = by short refl lent
+      answers = by short refl words
         where
           by : (b : Bool) → short ≡ b → n ≡ cond b 0 (length (c .memory .route)) → Answers a (withRest n c m)
           by true h e =

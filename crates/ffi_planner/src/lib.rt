@@ -1,17 +1,15 @@
-// Planner calls, explanations, the default schedule and the texts of a bench job for programs in C and Rust: answers
-// as figures, over numbers and lent memory. The default schedule is called the house schedule there, as users call it.
+// Planner calls, explanations, the default schedule and the bench text for programs in C and Rust: answers as figures,
+// over numbers and lent memory. The default schedule is called the house schedule there, as users call it.
+pub mod explanations;
+
 ghost use mathlib.Core.Path.{_≡_};
 ghost use Rattle.planner.specs.Plan.{memoryOf, callOf};
-ghost use Rattle.explanation.specs.Explained.{inquiryOf};
-ghost use Rattle.job.specs.Explained.{explainText};
-ghost use Rattle.job.specs.Texts.{Texts, Prints};
+ghost use Rattle.job.specs.Texts.{Prints};
 ghost use Rattle.schedule.specs.DefaultSchedule.{initial, loading};
 ghost use Rattle.ffi_planner.specs.Calls.{answerFigures, Exported};
-ghost use Rattle.ffi_planner.specs.Explanations.{explanationFigures, ExportedReason};
 ghost use Rattle.ffi_planner.specs.House.{houseOf, LoadedTo};
 use schedule::default_schedule::DefaultSchedule;
 use search::Answer;
-use search::Explanation;
 
 // The figures of a planner call's answer.
 fn of_answer(answer: Answer) -> [u64; 8]
@@ -109,82 +107,10 @@ pub extern "C" fn secondcoop_plan<'a>(
     *figures = of_answer(answer);
 }
 
-// The figures of an explanation: those of the call's answer, then how many vertices and edges are listed.
-fn of_explanation(explanation: Explanation) -> [u64; 10]
-    ensures { λ r. ⌜ r ≡ explanationFigures explanation ⌝ }
-{
-    let answer = explanation.answer;
-    let f = of_answer(answer);
-    [
-        f[0],
-        f[1],
-        f[2],
-        f[3],
-        f[4],
-        f[5],
-        f[6],
-        f[7],
-        explanation.vertices as u64,
-        explanation.edges as u64,
-    ]
-}
-
-// A planner call with the reason for "no route".
-#[no_mangle]
-pub extern "C" fn secondcoop_explain<'a>(
-    bytes: &[u8],
-    start: u32,
-    goal: u32,
-    barred: u32,
-    anchor: &[u32],
-    guides: &[u32],
-    guide_count: u32,
-    schedule: &'a [u32],
-    house: &'a [u32],
-    budget: u32,
-    route: &mut [u32],
-    log: &mut [u32],
-    work: &mut [u32],
-    wide: &mut [u64],
-    places: &mut [u32],
-    lanes: &mut [u32],
-    figures: &mut [u64; 10],
-)
-    ensures { λ r. ⌜ ExportedReason (inquiryOf (callOf (now (bytes .entry)) start goal barred (now (anchor .entry)) (now (guides .entry)) «guide_count» (now (schedule .entry)) (now (house .entry)) budget (memoryOf (now (route .entry)) (now (log .entry)) (now (work .entry)) (now (wide .entry)))) (now (places .entry)) (now (lanes .entry))) (now (figures .exit)) (memoryOf (now (route .exit)) (now (log .exit)) (now (work .exit)) (now (wide .exit))) (now (places .exit)) (now (lanes .exit)) ⌝ }
-{
-    let explanation = explanation::explain(
-        bytes,
-        start,
-        goal,
-        barred,
-        anchor,
-        guides,
-        guide_count,
-        schedule,
-        house,
-        budget,
-        route,
-        log,
-        work,
-        wide,
-        places,
-        lanes,
-    );
-    *figures = of_explanation(explanation);
-}
-
 // The text that the bench program prints for a job.
 #[no_mangle]
 pub extern "C" fn secondcoop_bench_text(job: &[u8], text: &mut [u8]) -> usize
     ensures { λ r. ⌜ Prints (now (job .entry)) (now (text .entry)) r (now (text .exit)) ⌝ }
 {
     bench_text::bench_text(job, text)
-}
-
-// The lines of a job's explanation.
-#[no_mangle]
-pub extern "C" fn secondcoop_explain_text(job: &[u8], text: &mut [u8]) -> usize
-    ensures { λ r. ⌜ Texts (explainText (now (job .entry))) (now (text .entry)) r (now (text .exit)) ⌝ }
-{
-    bench_text::explain_text(job, text)
 }

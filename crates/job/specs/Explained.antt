@@ -7,16 +7,21 @@ use Rattle.graph.specs.declared.Edge.{Edge}
 use Rattle.text.specs.Text.{each, reachLine, barredLine, refusedLine}
 use Rattle.search.specs.Call.{Call, planEdges}
 use Rattle.search.specs.Outcome.{Ending, route, noRoute, unfinished, refused, figures}
-use Rattle.search.specs.Reason.{Inquiry, answered, callMemory, verticesListed, edgesListed}
+use Rattle.search.specs.Reason.{Inquiry, answered, callMemory, verticesListed, edgesListed, lent}
 use Rattle.job.specs.declared.JobRead.{JobRead}
 use Rattle.job.specs.declared.JobRead.the-variants.{Accepted, Refused}
 use Rattle.job.specs.Reading.{maxJobVertices, maxJobEdges, jobRead}
 use Rattle.job.specs.Asked.{callAsked}
 use Rattle.job.specs.Printed.{lastLines}
 
--- the explanation of a bench job's call, with the least lists for 256 vertices and 2,048 edges
+-- the explanation of a bench job's call, which needs no log, with the least lists for 256 vertices and 2,048 edges
 unfoldable pub inquiryAsked : Call → Inquiry
-inquiryAsked c = record { call = c; vertices = replicate maxJobVertices 0; edges = replicate maxJobEdges 0 }
+inquiryAsked c =
+    record {
+      call = lent c (record { route = c .memory .route; log = []; work = c .memory .work; wide = c .memory .wide });
+      vertices = replicate maxJobVertices 0;
+      edges = replicate maxJobEdges 0;
+    }
 
 -- the line of edge number j of these, whichever line it is
 unfoldable pub edgeLine : List Edge → ℕ → ℕ → List ℕ

@@ -1,24 +1,21 @@
 // The answer of a planner call, with its route and log, or with the reason for "no route", as printed lines in a lent
 // buffer.
 mod buffer;
-mod edge_lines;
 mod end_lines;
 mod lines;
+mod reason_lines;
 
 ghost use Prim.Native.Nat.{_+_, _≤_};
-ghost use mathlib.Core.List.{_++_};
-ghost use lib.ListN.{length, take};
+ghost use lib.ListN.{length};
 ghost use Rattle.text.specs.Laid.{Put};
-ghost use Rattle.text.specs.Text.{each, noRouteLine, reachLine};
 ghost use Rattle.search.specs.declared.Answer.the-variants.{Route, NoRoute, Unfinished};
 ghost use Rattle.search.specs.Outcome.{figures};
 ghost use Rattle.search.specs.Outcome as ending;
 ghost use Rattle.job.specs.Printed.{lastLines};
-ghost use Rattle.job.specs.Explained.{edgeLine};
 ghost use Rattle.job.specs.Asked.{routeSize};
-ghost use Rattle.job.specs.Texts.{maxEnd, maxText, Texts, BenchSized};
+ghost use Rattle.job.specs.Texts.{maxEnd, maxText, BenchSized};
 ghost use Rattle.workspace.specs.Layout.{graphOf};
-ghost use Rattle.printing.specs.Shown.{Shown, Refuses, Listed, Explainable, ExplainedShown};
+ghost use Rattle.printing.specs.Shown.{Shown, Refuses, Explainable, ExplainedShown};
 use search::Answer;
 use search::Explanation;
 use search::Summary;
@@ -89,25 +86,6 @@ pub fn put_answer(out: &mut [u8], answer: Answer, route: &[u32], log: &[u32]) ->
     }
 }
 
-// Why there is no route: that there is none, the vertices that can be reached, and the barred edges that leave them,
-// as many as are answered.
-fn put_reason(
-    out: &mut [u8],
-    turns: u32,
-    explanation: Explanation,
-    work: &[u32],
-    z: Size,
-    vertices: &[u32],
-    edges: &[u32],
-) -> usize
-    requires { ⌜ Listed z (now work) (now vertices) (take (explanation .edges) (now edges)) ⌝ }
-    ensures { λ r. ⌜ Texts (noRouteLine turns ++ (reachLine (take (explanation .vertices) (now (vertices .entry))) ++ each (edgeLine (graphOf z (now (work .entry)))) 0 (take (explanation .edges) (now (edges .entry))))) (now (out .entry)) r (now (out .exit)) ⌝ }
-{
-    let at = end_lines::put_turns_line(out, 0, b"no route turns ", turns as u64);
-    let next = lines::put_reach_line(out, at, vertices, explanation.vertices as usize);
-    edge_lines::put_edge_lines(out, next, work, z, edges, explanation.edges as usize)
-}
-
 // An explanation's text, with route and work memory and both lists after it.
 pub fn put_explanation(
     out: &mut [u8],
@@ -124,7 +102,9 @@ pub fn put_explanation(
     let answer = explanation.answer;
     match answer {
         Answer::Route(summary) => put_route_end(out, 0, summary, route),
-        Answer::NoRoute(turns) => { put_reason(out, turns, explanation, work, z, vertices, edges) }
+        Answer::NoRoute(turns) => {
+            reason_lines::put_reason(out, turns, explanation, work, z, vertices, edges)
+        }
         Answer::Unfinished(turns) => {
             end_lines::put_turns_line(out, 0, b"unfinished turns ", turns as u64)
         }

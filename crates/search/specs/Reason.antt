@@ -139,9 +139,9 @@ pub record ListRoom (x : Inquiry) : Type 0 where
   pub vertices : jobOf (x .call) .size ≤ length (x .vertices)
   pub edges : length (planEdges (x .call)) ≤ length (x .edges)
 
--- the call, lent no route memory
-abbrev pub withoutRoute : Call → Call
-withoutRoute c =
+-- the call, lent other memory
+abbrev pub lent : Call → Memory → Call
+lent c m =
     record {
       bytes = c .bytes;
       start = c .start;
@@ -153,8 +153,12 @@ withoutRoute c =
       schedule = c .schedule;
       defaultSchedule = c .defaultSchedule;
       budget = c .budget;
-      memory = record { route = []; log = c .memory .log; work = c .memory .work; wide = c .memory .wide };
+      memory = m;
     }
+
+-- the call, lent no route memory
+abbrev pub withoutRoute : Call → Call
+withoutRoute c = lent c (record { route = []; log = c .memory .log; work = c .memory .work; wide = c .memory .wide })
 
 -- of one inquiry
 pub record Reasoned (x : Inquiry) : Type 0 where

@@ -3,8 +3,8 @@ use native.Mathlib.Omega.{arith}
 use Rattle.text.specs.Text.{ascii, noRouteLine}
 use Rattle.printing.proofs.Reasons.{first-few, second-few, third-few, reason-text}
 use borrow.Author.Needs.{needs}
-use Rattle.printing.proofs.put_reason.Statement.{statement}
-use Rattle.printing.proofs.put_reason.Tie as tie
+use Rattle.printing.proofs.reason_lines.put_reason.Statement.{statement}
+use Rattle.printing.proofs.reason_lines.put_reason.Tie as tie
 
 slice-aggregate-put-turns-line : tie.Need-slice-aggregate-put-turns-line
 slice-aggregate-put-turns-line c = search needs

@@ -3,8 +3,8 @@ use mathlib.Core.Path.{refl}
 use Rattle.ffi_planner.specs.Calls.{eight, answerFigures}
 use Rattle.ffi_planner.specs.Explanations.{explanationFigures}
 use borrow.Author.Needs.{needs}
-use Rattle.ffi_planner.proofs.of_explanation.Statement.{statement}
-use Rattle.ffi_planner.proofs.of_explanation.Tie as tie
+use Rattle.ffi_planner.proofs.explanations.of_explanation.Statement.{statement}
+use Rattle.ffi_planner.proofs.explanations.of_explanation.Tie as tie
 
 of-answer-requires : tie.Need-of-answer-requires
 of-answer-requires c κs = search needs

@@ -1,14 +1,18 @@
-// The lines of barred edges that leave what can be reached, put into a lent buffer from an offset on as far as there is
-// room.
+// The lines that say why there is no route: what can be reached, and the barred edges that leave it, put into a lent
+// buffer as far as there is room.
 ghost use Prim.Native.Nat.{_<_};
+ghost use mathlib.Core.List.{_++_};
 ghost use lib.ListN.{take};
 ghost use Rattle.text.specs.Laid.{Put, Counted};
-ghost use Rattle.text.specs.Text.{each, barredLine};
+ghost use Rattle.text.specs.Text.{each, noRouteLine, reachLine, barredLine};
 ghost use Rattle.job.specs.Explained.{edgeLine};
+ghost use Rattle.job.specs.Texts.{Texts};
 ghost use Rattle.workspace.specs.Layout.{graphOf, Whole};
-ghost use Rattle.printing.specs.Shown.{Numbers};
+ghost use Rattle.printing.specs.Shown.{Numbers, Listed};
 use crate::buffer;
+use crate::end_lines;
 use crate::lines;
+use search::Explanation;
 use workspace::Size;
 use workspace::edge_words;
 
@@ -51,7 +55,7 @@ fn put_edge_line(out: &mut [u8], at: usize, work: &[u32], z: Size, j: u32) -> us
 }
 
 // The edges of those in work memory whose numbers are listed: the first `count` of their slice.
-pub fn put_edge_lines(
+fn put_edge_lines(
     out: &mut [u8],
     at: usize,
     work: &[u32],
@@ -70,4 +74,23 @@ pub fn put_edge_lines(
         i += 1;
     }
     next
+}
+
+// Why there is no route: that there is none, the vertices that can be reached, and the barred edges that leave them,
+// as many as are answered.
+pub fn put_reason(
+    out: &mut [u8],
+    turns: u32,
+    explanation: Explanation,
+    work: &[u32],
+    z: Size,
+    vertices: &[u32],
+    edges: &[u32],
+) -> usize
+    requires { ⌜ Listed z (now work) (now vertices) (take (explanation .edges) (now edges)) ⌝ }
+    ensures { λ r. ⌜ Texts (noRouteLine turns ++ (reachLine (take (explanation .vertices) (now (vertices .entry))) ++ each (edgeLine (graphOf z (now (work .entry)))) 0 (take (explanation .edges) (now (edges .entry))))) (now (out .entry)) r (now (out .exit)) ⌝ }
+{
+    let at = end_lines::put_turns_line(out, 0, b"no route turns ", turns as u64);
+    let next = lines::put_reach_line(out, at, vertices, explanation.vertices as usize);
+    put_edge_lines(out, next, work, z, edges, explanation.edges as usize)
 }

@@ -2,8 +2,8 @@
 use mathlib.Core.Path.{sym}
 use Rattle.job.specs.Explained.{edgeLine}
 use borrow.Author.Needs.{needs}
-use Rattle.printing.proofs.edge_lines.put_edge_line.Statement.{statement}
-use Rattle.printing.proofs.edge_lines.put_edge_line.Tie as tie
+use Rattle.printing.proofs.reason_lines.put_edge_line.Statement.{statement}
+use Rattle.printing.proofs.reason_lines.put_edge_line.Tie as tie
 
 numbered-requires : tie.Need-numbered-requires
 numbered-requires c κs = search needs

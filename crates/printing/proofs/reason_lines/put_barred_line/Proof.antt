@@ -4,8 +4,8 @@ use lib.ListN.{length-append}
 use Rattle.text.specs.Text.{ascii, field, barredLine}
 use Rattle.text.proofs.Laid.{put-length, then-put}
 use borrow.Author.Needs.{needs}
-use Rattle.printing.proofs.edge_lines.put_barred_line.Statement.{statement}
-use Rattle.printing.proofs.edge_lines.put_barred_line.Tie as tie
+use Rattle.printing.proofs.reason_lines.put_barred_line.Statement.{statement}
+use Rattle.printing.proofs.reason_lines.put_barred_line.Tie as tie
 
 slice-aggregate-put-field : tie.Need-slice-aggregate-put-field
 slice-aggregate-put-field c = search needs

@@ -5,8 +5,8 @@ use Rattle.job.specs.Explained.{inquiryAsked}
 use Rattle.bench_text.proofs.Calls.{standard-prefix}
 use Rattle.bench_text.proofs.Reasons.{explainable, explained-text}
 use borrow.Author.Needs.{needs}
-use Rattle.bench_text.proofs.planning.explain_call.Statement.{statement}
-use Rattle.bench_text.proofs.planning.explain_call.Tie as tie
+use Rattle.bench_text.proofs.explaining.explain_call.Statement.{statement}
+use Rattle.bench_text.proofs.explaining.explain_call.Tie as tie
 
 standard-requires : tie.Need-standard-requires
 standard-requires c κs = search needs

@@ -11,8 +11,8 @@ use Rattle.job.specs.Explained.{edgeLine}
 use Rattle.workspace.specs.Layout.{graphOf}
 use Rattle.printing.proofs.Each.{none-each, next-each, each-counted, take-lesser}
 use borrow.Author.Needs.{needs}
-use Rattle.printing.proofs.edge_lines.put_edge_lines.Statement.{statement}
-use Rattle.printing.proofs.edge_lines.put_edge_lines.Tie as tie
+use Rattle.printing.proofs.reason_lines.put_edge_lines.Statement.{statement}
+use Rattle.printing.proofs.reason_lines.put_edge_lines.Tie as tie
 
 abbrev Inv-loop : tie.InvT-loop
 Inv-loop out₀ at work z list count shown next₀ i₀ out next i = Put at (each (edgeLine (graphOf z work)) 0 (take i list)) out₀ next out × (i ≤ shown)

@@ -1,8 +1,8 @@
 -- `secondcoop_explain` meets its contract: the explanation's own.
 use Rattle.ffi_planner.proofs.Handing.{exported-reason}
 use borrow.Author.Needs.{needs}
-use Rattle.ffi_planner.proofs.secondcoop_explain.Statement.{statement}
-use Rattle.ffi_planner.proofs.secondcoop_explain.Tie as tie
+use Rattle.ffi_planner.proofs.explanations.secondcoop_explain.Statement.{statement}
+use Rattle.ffi_planner.proofs.explanations.secondcoop_explain.Tie as tie
 
 explain-requires : tie.Need-explain-requires
 explain-requires c κs = search needs
