@@ -355,7 +355,8 @@ fn the_bytes_of_a_text_are_the_proved_ones() {
     // A word for each turn: 2·V in each of 16 rounds.
     let log = 2 * MOST_BENCH_VERTICES * 16;
     let spec = read("crates/job/specs/Texts.antt");
-    assert!(spec.contains("maxText = logSize * 35 + (6 + routeSize * 11) + 112\n"));
+    assert!(spec.contains("maxEnd = 6 + routeSize * 11 + 112\n"));
+    assert!(spec.contains("maxText = logSize * 35 + maxEnd\n"));
     assert!(spec.contains("few : r ≤ maxText\n"));
     let sizes = read("crates/job/specs/Asked.antt");
     assert!(sizes.contains(&format!("logSize = {log}\n")));

@@ -231,9 +231,24 @@ fn differences(one: &Functions, other: &Functions) -> Vec<String> {
     lines
 }
 
+/// The code of a crate: all its `.rt` files, `lib.rt` first.
+fn code(name: &str) -> String {
+    let directory = root().join(format!("crates/{name}/src"));
+    let entries = fs::read_dir(directory).expect("the crate has code");
+    let mut files: Vec<String> = entries
+        .map(|entry| entry.expect("it can be listed").file_name())
+        .map(|file| file.to_string_lossy().into_owned())
+        .collect();
+    files.sort_by_key(|file| (file != "lib.rt", file.clone()));
+    let texts = files.iter();
+    texts
+        .map(|file| read(&format!("crates/{name}/src/{file}")))
+        .collect()
+}
+
 /// All exports of the `.rt` files.
 fn all_exported() -> Functions {
-    let sources = EXPORTS.map(|(name, _)| read(&format!("crates/{name}/src/lib.rt")));
+    let sources = EXPORTS.map(|(name, _)| code(name));
     sources.iter().flat_map(|source| exported(source)).collect()
 }
 
@@ -325,7 +340,7 @@ fn a_change_at_the_house_is_found() {
         ("house: &'a [u32]", "house: &'a mut [u32]"),
         ("sheet: &[u32]", "sheet: &[u32; 32]"),
     ];
-    all_found(exported, &read("crates/ffi_planner/src/lib.rt"), &exports);
+    all_found(exported, &code("ffi_planner"), &exports);
 }
 
 /// Both functions that explain, in all three.
@@ -358,7 +373,7 @@ fn a_change_at_the_explanation_is_found() {
         ("places: &mut [u32]", "places: &[u32]"),
         ("lanes: &mut [u32]", "lanes: &mut [u64]"),
     ];
-    all_found(exported, &read("crates/ffi_planner/src/lib.rt"), &exports);
+    all_found(exported, &code("ffi_planner"), &exports);
 }
 
 #[test]
@@ -384,7 +399,7 @@ fn a_change_in_the_rust_declarations_is_found() {
 
 #[test]
 fn a_change_in_the_exports_is_found() {
-    let source = read("crates/ffi_planner/src/lib.rt");
+    let source = code("ffi_planner");
     let changes = [
         (
             "    start: u32,\n    goal: u32",
@@ -435,7 +450,7 @@ fn figures_are_as_many_as_the_header_says() {
             ],
         ),
     ] {
-        let source = read(&format!("crates/{name}/src/lib.rt"));
+        let source = code(name);
         for (macro_name, functions) in counts {
             let figures = format!("figures: &mut [u64; {}]", number(macro_name));
             assert_eq!(source.matches(&figures).count(), *functions, "{name}");
@@ -505,7 +520,7 @@ fn libraries_are_as_the_header_says() {
     let mut needed = Vec::new();
     for (name, archive) in EXPORTS {
         let symbols = symbols(archive);
-        let exports = exported(&read(&format!("crates/{name}/src/lib.rt")));
+        let exports = exported(&code(name));
         for function in exports.keys() {
             assert!(symbols.contains(&('T', function.clone())), "{function}");
         }

@@ -11,6 +11,8 @@ use Rattle.search.specs.Job.{cyclic, guides, heuristic, factors, standard, unre
 use Rattle.search.specs.Turn.{key, offered, better, leastFrom, least, stepOne, candidate, choose, marked, lowered, relax, relaxAll, expand}
 use Rattle.search.specs.Rounds.{firstTurn, nextTurn, turned, ended, inHand, step, choice, turn, trace, traced, improves, costOr, reopened, endRound, onFinished, settle, settled, begin, onDue, advance, run, moments, search}
 use Rattle.search.specs.Call.{orDefault, scheduleOf, outOfRange, rising, unfitSchedule, pairs, row, first, endsRow, tablesRow, scheduleRow, memoryRow, goalRow, edgesRow, faultIn, faultOf, planEdges, tables, jobIn, jobFrom, jobOf}
+use Rattle.search.specs.Reason as reason
+use Rattle.search.specs.Reason.{listsRow, inquiryFaultIn, inquiryFault, callMemory, numbersOf, isReached, leaves, lastVertices, reached, leaving, listedAt, verticesListed, edgesListed, explanation, verticesAfter, edgesAfter}
 use Rattle.search.specs.Outcome.{bound, summary, cutShort, answerAt, answerOf, figures, routeWords, routeAfter, logWord, logAfter, edgesBelow, firstEdges, markWord, twoEach, workWords, outcome, answerIn, answer, memoryIn, memoryAfter}
 use Rattle.job.proofs.JobA.{prints-A}
 use Rattle.cases.specs.Cases.{Cases}
@@ -19,14 +21,15 @@ use Rattle.cases.specs.Barred.{Barred}
 use Rattle.cases.specs.Costs.{Costs}
 use Rattle.cases.specs.Opinion.{Opinion}
 use Rattle.cases.specs.Lead.{shown, Lead}
+use Rattle.cases.specs.Reasons.{Reasons}
 use Rattle.cases.specs.Defaults.{Defaults}
 use Rattle.cases.proofs.Ends.{plan-refused}
 use Rattle.search.specs.Guarantee.{roundOf, hOf, keyOf, withPick}
 use Rattle.cases.proofs.TwoVertices.{two-vertices}
 use Rattle.cases.proofs.StartIsGoal.{start-is-goal}
 
-computed : Cases × Apart × Barred × Costs × Opinion × Lead × Defaults
-unfolding Number.decode more answered read planGroups encode vertexCountRows edgeCountRows tailRows headRows costRows classRows through throughAll takeNumber taking leastAfter past nextEdge before onward edgesFrom header afterHeader decode sizes over roomFor readAs edgesIn readAnswer listAfter edgesOf listRows edgeRows edgesFault writeFault edgeBytes edgesBytes bytesOf outAfter edgeCost onEdge costFrom routeCost barredBy permitted cyclic guides heuristic factors standard unreached noPred routeEnd noOpinion fresh origin atFirst at key offered better leastFrom least stepOne candidate choose marked lowered relax relaxAll expand firstTurn nextTurn turned ended inHand step choice turn trace traced improves costOr reopened endRound onFinished settle settled begin onDue advance run moments search orDefault scheduleOf outOfRange rising unfitSchedule pairs row first endsRow tablesRow scheduleRow memoryRow goalRow edgesRow faultIn faultOf planEdges tables jobIn jobFrom jobOf bound summary cutShort answerAt answerOf figures routeWords routeAfter logWord logAfter edgesBelow firstEdges markWord twoEach workWords outcome answerIn answer memoryIn memoryAfter roundOf hOf keyOf withPick shown
+computed : Cases × Apart × Barred × Costs × Opinion × Lead × Defaults × Reasons
+unfolding Number.decode more answered read planGroups encode vertexCountRows edgeCountRows tailRows headRows costRows classRows through throughAll takeNumber taking leastAfter past nextEdge before onward edgesFrom header afterHeader decode sizes over roomFor readAs edgesIn readAnswer listAfter edgesOf listRows edgeRows edgesFault writeFault edgeBytes edgesBytes bytesOf outAfter edgeCost onEdge costFrom routeCost barredBy permitted cyclic guides heuristic factors standard unreached noPred routeEnd noOpinion fresh origin atFirst at key offered better leastFrom least stepOne candidate choose marked lowered relax relaxAll expand firstTurn nextTurn turned ended inHand step choice turn trace traced improves costOr reopened endRound onFinished settle settled begin onDue advance run moments search orDefault scheduleOf outOfRange rising unfitSchedule pairs row first endsRow tablesRow scheduleRow memoryRow goalRow edgesRow faultIn faultOf planEdges tables jobIn jobFrom jobOf bound summary cutShort answerAt answerOf figures routeWords routeAfter logWord logAfter edgesBelow firstEdges markWord twoEach workWords outcome answerIn answer memoryIn memoryAfter roundOf hOf keyOf withPick shown listsRow inquiryFaultIn inquiryFault reason.answered callMemory numbersOf isReached leaves lastVertices reached leaving listedAt verticesListed edgesListed explanation verticesAfter edgesAfter
 computed = (
   record {
     job-A = record { says = refl; leaves = refl };
@@ -119,6 +122,20 @@ computed = (
     tables-before = refl;
     before-short = refl;
   },
+  record {
+    barred = record { says = refl; counts = (refl, refl); lists = (refl, refl) };
+    all-barred = record { says = refl; counts = (refl, refl); lists = (refl, refl) };
+    none-barred = record { says = refl; counts = (refl, refl); lists = (refl, refl) };
+    route = record { says = refl; counts = (refl, refl); lists = (refl, refl) };
+    unfinished = record { says = refl; counts = (refl, refl); lists = (refl, refl) };
+    exact = record { says = refl; counts = (refl, refl); lists = (refl, refl) };
+    short-vertices = record { says = refl; counts = (refl, refl); lists = (refl, refl) };
+    short-edges = record { says = refl; counts = (refl, refl); lists = (refl, refl) };
+    short-with-route = record { says = refl; counts = (refl, refl); lists = (refl, refl) };
+    before-anchor = record { says = refl; counts = (refl, refl); lists = (refl, refl) };
+    after-ends = record { says = refl; counts = (refl, refl); lists = (refl, refl) };
+    after-tables = record { says = refl; counts = (refl, refl); lists = (refl, refl) };
+  },
 )
 
 pub all-cases : Cases
@@ -141,3 +158,6 @@ lead = computed .5
 
 pub defaults : Defaults
 defaults = computed .6
+
+pub reasons : Reasons
+reasons = computed .7

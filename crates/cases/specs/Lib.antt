@@ -7,3 +7,4 @@ pub mod Costs
 pub mod Opinion
 pub mod Lead
 pub mod Defaults
+pub mod Reasons

@@ -1,9 +1,10 @@
--- Job A of document 01, as bytes, with the classes and the barred number of document 02 (E1), and what is printed for it. Proved in proofs/JobA.antt.
+-- Job A of document 01, as bytes, with the classes and the barred number of document 02 (E1), what is printed for it, and the lines of its explanation (E8). Proved in proofs/JobA.antt.
 use Prim.Native.Nat.{ℕ}
 use mathlib.Core.Path.{_≡_}
 use mathlib.Core.List.{List, [], _∷_, _++_}
 use Rattle.text.specs.Text.{ascii}
 use Rattle.job.specs.Printed.{benchText}
+use Rattle.job.specs.Explained.{explainText}
 
 -- plan A with lane 0→1 of this class; document 02's is 0, as of the other lanes
 abbrev pub planWith : ℕ → List ℕ
@@ -63,3 +64,15 @@ pub record PrintsA : Type 0 where
       "turn 1 table 1 place 0\nturn 2 table 1 place 2\nturn 3 table 0 place 1\nturn 4 table 1 place 2\nroute 0 1 2 3\nend cost 6 rounds 6 turns 4 bound 10000\n"
   -- class 8: 15, at its offset in the plan
   pub class-8 : benchText (jobWith 0x08 (0x00 ∷ []) 0x64) ≡ ascii "refused 15 at 5\n"
+
+pub record ExplainsA : Type 0 where
+  -- class 0 barred: only lane 0→1 is permitted; two barred lanes leave places 0 and 1, the third does not start there
+  pub barred :
+      explainText (jobWith 0x01 (0x01 ∷ []) 0x64)
+      ≡ ascii
+      "no route turns 2\nreach 0 1\nbarred lane 1 tail 0 head 2 cost 4 class 0\nbarred lane 2 tail 1 head 2 cost 2 class 0\n"
+  -- with a route, unfinished or refused: what is printed of the job, without turn lines
+  pub whole : explainText (jobA 0x64) ≡ ascii "route 0 1 2 3\nend cost 6 rounds 2 turns 4 bound 10000\n"
+  pub at-1 : explainText (jobWith 0x01 (0x01 ∷ []) 1) ≡ ascii "unfinished turns 1\n"
+  pub barred-256 : explainText (jobWith 0x00 (0x80 ∷ 0x02 ∷ []) 0x64) ≡ ascii "refused 8 at 0\n"
+  pub class-8 : explainText (jobWith 0x08 (0x00 ∷ []) 0x64) ≡ ascii "refused 15 at 5\n"
