@@ -1,7 +1,7 @@
 /*
  * Why there is no route: two storeys whose only way up is a ramp, the floor of
  * only-ramp.txt, for a tug that must keep off slopes. Prints the places that
- * the tug can reach and the barred lanes that hold it up; then what there is
+ * the tug can reach and the barred lanes that leave them; then what there is
  * to explain once it may use slopes, and within two turns. The exit status is
  * 0 only if all three are as they should be.
  *
@@ -59,7 +59,7 @@ static void print_lists(const struct outcome *outcome)
     printf("no route; the tug can reach %" PRIu64 " places:", places);
     for (uint64_t at = 0; at < places; at++)
         printf(" %" PRIu32, outcome->places[at]);
-    printf("\nbarred lanes that lead from these to others: %" PRIu64 "\n", lanes);
+    printf("\nbarred lanes that lead out of these: %" PRIu64 "\n", lanes);
     for (uint64_t at = 0; at < lanes; at++) {
         const uint32_t lane = outcome->lanes[at];
         printf("lane %" PRIu32 " from %" PRIu32 " to %" PRIu32 ", cost %" PRIu32

@@ -88,8 +88,8 @@ extern "C" {
 #endif
 
 /*
- * The version of this interface: it rises when a declaration changes, or
- * what a number or a word of memory means.
+ * The version of this interface: it rises when a declaration is added or
+ * changes, or what a number or a word of memory means.
  *
  * Version 2: lanes have classes, a fourth number in plan bytes, a fourth list
  * to read and write, and M words more in work memory; a planner call and a
@@ -117,8 +117,8 @@ extern "C" {
  * that is handed the standard house is what it was, and bench jobs take it
  * always. The libraries need `memcpy` too.
  *
- * Version 6: secondcoop_explain and secondcoop_explain_text say why there is no
- * route. What was there before is as it was.
+ * Version 6: secondcoop_explain and secondcoop_explain_text say why there is
+ * no route. What was there before is as it was.
  */
 #define SECONDCOOP_VERSION 6
 
@@ -413,26 +413,29 @@ enum {
 };
 
 /*
- * Says why there is no route. It is secondcoop_plan on the same arguments, and
- * leaves route, log, work and wide memory as that call does. Where the call
- * gives no route, two lists are written besides:
+ * Says why there is no route. Unless it is refused, it answers as
+ * secondcoop_plan does on the same arguments and leaves route, log, work and
+ * wide memory as that call does. Where the answer is no route
+ * (SECONDCOOP_NO_ROUTE), two lists are written besides:
  *
  * places       The places that the tug can reach: those to which a chain of
  *              permitted lanes leads from the start, rising. The start is one
  *              of them and the goal is not, and no permitted lane leads from
- *              one of them to another place.
- * lanes        The lanes that hold the tug up, by their numbers from 0 among
- *              all lanes in plan order, rising: each barred lane whose tail is
- *              one of these places and whose head is not. Without any, no
- *              barred class is the reason: no lane leaves these places at all.
+ *              one of them to a place that is none of them.
+ * lanes        The barred lanes that leave these places: each whose tail is
+ *              one of them and whose head is not, by its number from 0 among
+ *              all lanes in plan order, rising. Opening their classes need not
+ *              give a route. Without any, no lane leaves these places at all,
+ *              and opening classes does not help.
  *
  * Memory behind what is listed keeps its contents. A route, unfinished and a
  * refusal list nothing and leave both lists untouched.
  *
  * Figures: the eight of secondcoop_plan, then how many places and how many
  * lanes are listed, 0 and 0 where nothing is. A refusal is that of
- * secondcoop_plan, with 11 also if places has under V words
- * (SECONDCOOP_PLACES_WORDS) or lanes under M (SECONDCOOP_LANES_WORDS).
+ * secondcoop_plan, with 11 also, in its row and so before 12 and 13, if places
+ * has under V words (SECONDCOOP_PLACES_WORDS) or lanes under M
+ * (SECONDCOOP_LANES_WORDS).
  */
 void secondcoop_explain(const uint8_t *bytes, size_t bytes_length,
                         uint32_t start, uint32_t goal, uint32_t barred,

@@ -23,8 +23,8 @@ pub struct Lists<'a> {
 }
 
 /// Why there is no route: the places that can be reached from the start, and
-/// the numbers of the barred lanes that lead from one of them to another
-/// place, both rising.
+/// the numbers of the barred lanes that lead from one of them to a place
+/// outside them, both rising.
 #[derive(Clone, Debug, Default, PartialEq, Eq)]
 pub struct Reason {
     pub places: Vec<u32>,

@@ -1,5 +1,6 @@
 //! The reason for no route in plain words, for whoever is rung up when a tug
-//! reports none: how far the tug comes, and which barred lanes hold it up.
+//! reports none: how far the tug comes, and which barred lanes leave
+//! what it can reach.
 
 use std::collections::BTreeSet;
 
@@ -50,8 +51,8 @@ fn no_route(explained: &Explained) -> String {
     match leaving.is_empty() {
         true => reached + NO_LANE,
         false => format!(
-            "{reached}{}whether it then comes to place {goal} is not said here: run the job with \
-             that class open\n",
+            "{reached}{}whether it then comes to place {goal} is not said here: run the job \
+             again with fewer classes barred\n",
             held_up_by(&leaving)
         ),
     }
@@ -62,15 +63,15 @@ fn held_up_by(lanes: &[(u32, Edge)]) -> String {
     let classes = BTreeSet::from_iter(lanes.iter().map(|(_, edge)| edge.class));
     let classes = class_words(&Vec::from_iter(classes));
     let title = match lanes.len() {
-        1 => "1 barred lane leads from these places to another:\n".to_string(),
-        lanes => format!("{lanes} barred lanes, of {classes}, lead from these places to others:\n"),
+        1 => "1 barred lane leads out of these places:\n".to_string(),
+        lanes => format!("{lanes} barred lanes, of {classes}, lead out of these places:\n"),
     };
     lanes.iter().fold(title, |text, &(number, edge)| {
         text + &lane_words(number, edge)
     })
 }
 
-const NO_LANE: &str = "no lane at all, barred or not, leads from these places to others, so \
+const NO_LANE: &str = "no lane at all, barred or not, leads out of these places, so \
                        opening classes does not help\n";
 
 fn lane_words(number: u32, edge: Edge) -> String {

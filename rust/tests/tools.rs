@@ -695,11 +695,11 @@ fn no_route_is_explained() {
     let all = all.replace("lane 0 4 5 0", "lane 0 4 5 3");
     let words = "there is no route from place 0 to place 3 over permitted lanes\n\
                  from place 0 the tug can reach 1 of the 6 places: 0\n\
-                 2 barred lanes, of classes 0, 3, lead from these places to others:\n\
+                 2 barred lanes, of classes 0, 3, lead out of these places:\n\
                  open class 0 and the tug gets past lane 0 -> 1 (lane number 0, cost 2)\n\
                  open class 3 and the tug gets past lane 0 -> 4 (lane number 1, cost 5)\n\
-                 whether it then comes to place 3 is not said here: run the job with that class \
-                 open\n";
+                 whether it then comes to place 3 is not said here: run the job again with \
+                 fewer classes barred\n";
     assert_eq!(job(&["explain"], &all), left(1, words, ""));
     let lines = "no route turns 1\nreach 0\nbarred lane 0 tail 0 head 1 cost 2 class 0\n\
                  barred lane 1 tail 0 head 4 cost 5 class 3\n";
@@ -707,8 +707,8 @@ fn no_route_is_explained() {
     // No lane leaves.
     let words = "there is no route from place 0 to place 3 over permitted lanes\n\
                  from place 0 the tug can reach 2 of the 4 places: 0 1\n\
-                 no lane at all, barred or not, leads from these places to others, so opening \
-                 classes does not help\n";
+                 no lane at all, barred or not, leads out of these places, so opening classes \
+                 does not help\n";
     let none = read("no-route.txt");
     assert_eq!(job(&["explain"], &none), left(1, words, ""));
     let lines = "no route turns 2\nreach 0 1\n";

@@ -23,6 +23,6 @@ pub fn explain_text(job: &[u8], out: &mut [u8]) -> usize
 {
     match job_reader::read_but_edges(job) {
         JobRead::Accepted(front, vertices) => planning::plan_job(out, job, front, vertices, true),
-        JobRead::Refused(n, p) => printing::put_refused(out, n, p),
+        JobRead::Refused(number, position) => printing::put_refused(out, number, position),
     }
 }

@@ -72,7 +72,7 @@ pub record ExplainsA : Type 0 where
       ≡ ascii
       "no route turns 2\nreach 0 1\nbarred lane 1 tail 0 head 2 cost 4 class 0\nbarred lane 2 tail 1 head 2 cost 2 class 0\n"
   -- with a route, unfinished or refused: what is printed of the job, without turn lines
-  pub whole : explainText (jobA 0x64) ≡ ascii "route 0 1 2 3\nend cost 6 rounds 2 turns 4 bound 10000\n"
+  pub route : explainText (jobWith 0x01 (0x02 ∷ []) 0x64) ≡ ascii "route 0 2 3\nend cost 7 rounds 2 turns 2 bound 10000\n"
   pub at-1 : explainText (jobWith 0x01 (0x01 ∷ []) 1) ≡ ascii "unfinished turns 1\n"
   pub barred-256 : explainText (jobWith 0x00 (0x80 ∷ 0x02 ∷ []) 0x64) ≡ ascii "refused 8 at 0\n"
   pub class-8 : explainText (jobWith 0x08 (0x00 ∷ []) 0x64) ≡ ascii "refused 15 at 5\n"

@@ -27,7 +27,7 @@ usage: job run FILE         plans the job with the proved library; prints its tu
        job lead FILE        as run, but says of each turn how dear its place is and how dear it
                             may be, and last how near guides and anchor came to that
        job explain FILE     says why the job has no route: the places that the tug can reach and
-                            the barred lanes that lead from these to others; explain --lines FILE
+                            the barred lanes that lead out of these; explain --lines FILE
                             prints that in lines for programs
        job bytes FILE       the job's bytes, as the bench program reads them
        job hex FILE         the job's bytes as hexadecimal pairs
@@ -47,8 +47,8 @@ cost of the cheapest chain, and the anchor only if it is at most w1 times that. 
 are the proved library's; the places' costs in each turn and the cheapest chain are reckoned by
 code that is tested and not proved.
 The explanation is the proved library's. Opening the class of a barred lane that it names takes the
-tug past that lane and not yet to the goal; where it names none, no lane leads from these places to
-others, and no class helps. On a route and on a job that is unfinished it says so and names nothing.
+tug past that lane and not yet to the goal; where it names none, no lane leads out of these places,
+and no class helps. On a route and on a job that is unfinished it says so and names nothing.
 The bench program takes up to 256 places, 2048 lanes and 32768 bytes; run, check, print, lead and
 explain take what the planner call takes, up to 4096 places and 32768 lanes.
 Exit status: 0 a route, or done; 1 no route; 2 unfinished; 3 refused, with the reason in plain

@@ -16,8 +16,8 @@ enum-known-front c = search needs
 plan-job-requires : tie.Need-plan-job-requires
 plan-job-requires c κs = sym (c .before .before .before .before .read-but-edges .ensures) ∙ c .before .before .front .given .1
 
-enum-known-n : tie.Need-enum-known-n
-enum-known-n c = search needs
+enum-known-number : tie.Need-enum-known-number
+enum-known-number c = search needs
 
 put-refused-requires : tie.Need-put-refused-requires
 put-refused-requires c κs = search needs
@@ -34,7 +34,7 @@ same-length-2 c = search needs
 
 returns-2 : tie.Need-returns-2
 unfolding explainedAs
-returns-2 c = rw (same-explained _, sym (c .before .before .before .before .before .before .before .read-but-edges .ensures) ∙ c .before .before .before .before .before .n .given .1) (c .before .before .put-refused .ensures)
+returns-2 c = rw (same-explained _, sym (c .before .before .before .before .before .before .before .read-but-edges .ensures) ∙ c .before .before .before .before .before .number .given .1) (c .before .before .put-refused .ensures)
 
 pub explain-text-spec : {M : Type 1} → statement M
 explain-text-spec =
@@ -43,7 +43,7 @@ explain-text-spec =
     read-but-edges-requires
     enum-known-front
     plan-job-requires
-    enum-known-n
+    enum-known-number
     put-refused-requires
     same-length
     returns
