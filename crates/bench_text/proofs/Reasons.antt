@@ -16,7 +16,7 @@ use Rattle.search.specs.declared.Explanation.{Explanation}
 use Rattle.search.specs.Call.{Memory, Call, planEdges}
 use Rattle.search.specs.Admitted.{Admitted}
 use Rattle.search.specs.Outcome.{Ending, route, noRoute, unfinished, refused, figures}
-use Rattle.search.specs.Reason.{Inquiry, inquiryFault, answered, callMemory, lastVertices, explanation}
+use Rattle.search.specs.Reason.{Inquiry, inquiryFault, answered, lastVertices, explanation}
 use Rattle.search.proofs.Admitted.{exact, plan-edges}
 use Rattle.search.proofs.Reason.{unrefused, no-fault}
 use Rattle.workspace.specs.declared.Size.{Size}

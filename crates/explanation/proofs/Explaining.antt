@@ -1,17 +1,16 @@
 -- The call and its lists, as the definitions of an explanation have them.
-use Prim.Native.Nat.{ℕ, _≤_, _<_}
+use Prim.Native.Nat.{ℕ, _≤_}
 use native.Mathlib.Omega.{arith}
 use mathlib.Core.Path.{_≡_, refl, sym, ap, _∙_, subst}
 use mathlib.Core.Bool.{Bool, true, false, true≢false, cond, _||_}
-use mathlib.Core.List.{List, [], _∷_, _++_, append-nil}
+use mathlib.Core.List.{List, [], _++_, append-nil}
 use lib.ListN.{length, take, drop}
 use lib.Seq.{take-all, take-length, take-append-seam, drop-length}
 use lib.Dec.{ltb}
-use borrow.Author.Tests.{lt-ltb, le-ltb, ltb-false}
+use borrow.Author.Tests.{le-ltb, ltb-false}
 use Rattle.graph.specs.declared.Edge.{Edge}
 use Rattle.graph.specs.Plan.{Decoded, accepted, refused, header, decode}
 use Rattle.graph.proofs.Tests.{or-false, or-left, or-right}
-use Rattle.graph.proofs.Within.{accepted-within}
 use Rattle.text.specs.Laid.{Put}
 use Rattle.text.proofs.Laid.{laid-zero}
 use Rattle.graph.specs.Lists.{Fault, none, fault, over, edgesIn}
@@ -19,11 +18,11 @@ use Rattle.search.specs.declared.Vertex.{Vertex}
 use Rattle.search.specs.declared.Answer.{Answer}
 use Rattle.search.specs.declared.Answer.the-variants.{Route, NoRoute, Unfinished, Refused}
 use Rattle.search.specs.declared.Explanation.{Explanation}
-use Rattle.search.specs.Call.{Memory, Call, scheduleOf, row, first, endsRow, tablesRow, memoryRow, goalRow, anchorRows, faultIn, faultOf, planEdges, jobIn, jobFrom, jobOf}
+use Rattle.search.specs.Call.{Memory, Call, first, faultIn, faultOf, planEdges, jobIn, jobFrom, jobOf}
 use Rattle.search.specs.Admitted.{Admitted}
 use Rattle.search.specs.Outcome.{workWords, wideWords, noRoute, figures, answerIn, answer, memoryIn, memoryAfter}
 use Rattle.search.proofs.Admitted.{exact, plan-edges}
-use Rattle.search.specs.Reason.{Inquiry, listsRow, inquiryFaultIn, inquiryFault, answered, callMemory, numbersOf, isReached, leaves, lastVertices, reached, leaving, listedAt, verticesListed, edgesListed, explanation, verticesAfter, edgesAfter, Reason, ListRoom, lent}
+use Rattle.search.specs.Reason.{Inquiry, inquiryFaultIn, inquiryFault, answered, callMemory, numbersOf, isReached, leaves, lastVertices, reached, leaving, listedAt, verticesListed, edgesListed, explanation, verticesAfter, edgesAfter, Reason, ListRoom, lent}
 use Rattle.search.proofs.Guarantee.{guaranteed, any-rule}
 use Rattle.search.proofs.Reason as reason
 use Rattle.search.proofs.Reason.{own, roomy, unrefused, sized, reasoned}

@@ -1,5 +1,5 @@
 -- Why there is no route: what is listed is what a walk leads to, and the barred edges that leave it; and when an inquiry is refused.
-use mathlib.Core.Path.{_≡_, refl, sym, ap, _∙_, subst}
+use mathlib.Core.Path.{_≡_, refl, sym, _∙_, subst}
 use mathlib.Core.Logic.{_↔_}
 use mathlib.Core.Bool.{Bool, true, false, true≢false, cond, not, _&&_, _||_}
 use mathlib.Core.List.{List, [], _∷_, _++_, List·Memᴰ}
@@ -26,7 +26,6 @@ use Rattle.search.specs.Permitted.{barredBy}
 use Rattle.search.specs.Job.{Job, unreached, fresh, at}
 use Rattle.search.specs.Rounds.{begin, run, search}
 use Rattle.search.specs.Call.{Call, scheduleOf, row, first, endsRow, tablesRow, memoryRow, goalRow, callRows, anchorRows, faultIn, faultOf, planEdges, jobIn, jobFrom, jobOf}
-use Rattle.search.specs.Admitted.{Admitted}
 use Rattle.search.specs.Outcome.{noRoute, figures, outcome, answerOf, answerIn, answer, memoryIn, memoryAfter}
 use Rattle.search.specs.Reason.{Inquiry, listsRow, inquiryFaultIn, inquiryFault, answered, callMemory, numbersOf, isReached, leaves, lastVertices, reached, leaving, listedAt, verticesListed, edgesListed, Leaves, Reason, ListRoom, withoutRoute, Reasoned}
 use Rattle.search.proofs.Tools.{le-cases, reached-inside}

@@ -1,6 +1,6 @@
 -- `explain` meets its contract: the call, with as much route memory as the lists allow, and the lists after it.
 use mathlib.Core.Path.{sym}
-use lib.Seq.{length-take-le, length-front}
+use lib.Seq.{length-take-le}
 use Rattle.planner.specs.Plan.{memoryOf, callOf}
 use Rattle.explanation.specs.Explained.{inquiryOf}
 use Rattle.explanation.proofs.Explaining.{lends, listable, explained}

@@ -1,5 +1,4 @@
 -- `explain_call` meets its contract: the explanation on the standard default schedule, then its text.
-use native.Mathlib.Omega.{arith}
 use Rattle.job.specs.Asked.{zeros, callWith}
 use Rattle.job.specs.Explained.{inquiryAsked}
 use Rattle.bench_text.proofs.Calls.{standard-prefix}

@@ -1,5 +1,5 @@
 -- `list_edges_of` meets its contract. The loop's invariant: the edges of the tail before edge j are listed.
-use Prim.Native.Nat.{_-_, _<_, _≤_}
+use Prim.Native.Nat.{_-_, _≤_}
 use native.Mathlib.Omega.{arith}
 use native.Mathlib.Numerals.{add-one}
 use Rattle.search.specs.Reason.{leaves}

@@ -1,7 +1,7 @@
 -- `put_vertices_line` meets its contract: the word, the vertices and a newline.
 use native.Mathlib.Omega.{arith}
 use lib.ListN.{length-append}
-use Rattle.text.proofs.Laid.{put-length, then-put}
+use Rattle.text.proofs.Laid.{then-put}
 use borrow.Author.Needs.{needs}
 use Rattle.printing.proofs.lines.put_vertices_line.Statement.{statement}
 use Rattle.printing.proofs.lines.put_vertices_line.Tie as tie

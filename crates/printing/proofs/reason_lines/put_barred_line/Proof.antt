@@ -2,7 +2,7 @@
 use native.Mathlib.Omega.{arith}
 use lib.ListN.{length-append}
 use Rattle.text.specs.Text.{ascii, field, barredLine}
-use Rattle.text.proofs.Laid.{put-length, then-put}
+use Rattle.text.proofs.Laid.{then-put}
 use borrow.Author.Needs.{needs}
 use Rattle.printing.proofs.reason_lines.put_barred_line.Statement.{statement}
 use Rattle.printing.proofs.reason_lines.put_barred_line.Tie as tie

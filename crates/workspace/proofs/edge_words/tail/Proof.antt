@@ -2,7 +2,6 @@
 use Prim.Native.Nat.{_-_}
 use native.Mathlib.Omega.{arith}
 use Rattle.workspace.proofs.Numbered.{Sought, some-vertex, sought-first, sought-inside, sought-next}
-use borrow.Author.Needs.{needs}
 use Rattle.workspace.proofs.edge_words.tail.Statement.{statement}
 use Rattle.workspace.proofs.edge_words.tail.Tie as tie
 
