@@ -1,101 +1,40 @@
--- The call and its lists, as the definitions of an explanation have them.
+-- The call that an explanation makes, refused as the inquiry is, and the lists after it, as the definitions have them.
 use Prim.Native.Nat.{ℕ, _≤_}
 use native.Mathlib.Omega.{arith}
 use mathlib.Core.Path.{_≡_, refl, sym, ap, _∙_, subst}
 use mathlib.Core.Bool.{Bool, true, false, true≢false, cond, _||_}
-use mathlib.Core.List.{List, [], _++_, append-nil}
+use mathlib.Core.List.{List, _++_, append-nil}
 use lib.ListN.{length, take, drop}
-use lib.Seq.{take-all, take-length, take-append-seam, drop-length}
+use lib.Seq.{take-length, take-append-seam, drop-length}
 use lib.Dec.{ltb}
 use borrow.Author.Tests.{le-ltb, ltb-false}
 use Rattle.graph.specs.declared.Edge.{Edge}
 use Rattle.graph.specs.Plan.{Decoded, accepted, refused, header, decode}
 use Rattle.graph.proofs.Tests.{or-false, or-left, or-right}
-use Rattle.text.specs.Laid.{Put}
-use Rattle.text.proofs.Laid.{laid-zero}
 use Rattle.graph.specs.Lists.{Fault, none, fault, over, edgesIn}
 use Rattle.search.specs.declared.Vertex.{Vertex}
 use Rattle.search.specs.declared.Answer.{Answer}
-use Rattle.search.specs.declared.Answer.the-variants.{Route, NoRoute, Unfinished, Refused}
+use Rattle.search.specs.declared.Answer.the-variants.{Refused}
 use Rattle.search.specs.declared.Explanation.{Explanation}
 use Rattle.search.specs.Call.{Memory, Call, first, faultIn, faultOf, planEdges, jobIn, jobFrom, jobOf}
 use Rattle.search.specs.Admitted.{Admitted}
 use Rattle.search.specs.Outcome.{workWords, wideWords, noRoute, figures, answerIn, answer, memoryIn, memoryAfter}
 use Rattle.search.proofs.Admitted.{exact, plan-edges}
-use Rattle.search.specs.Reason.{Inquiry, inquiryFaultIn, inquiryFault, answered, callMemory, numbersOf, isReached, leaves, lastVertices, reached, leaving, listedAt, verticesListed, edgesListed, explanation, verticesAfter, edgesAfter, Reason, ListRoom, lent}
+use Rattle.search.specs.Reason.{Inquiry, inquiryFaultIn, inquiryFault, answered, callMemory, numbersOf, isReached, leaves, lastVertices, reached, leaving, verticesListed, edgesListed, explanation, verticesAfter, edgesAfter, Reason, ListRoom, lent}
 use Rattle.search.proofs.Guarantee.{guaranteed, any-rule}
 use Rattle.search.proofs.Reason as reason
 use Rattle.search.proofs.Reason.{own, roomy, unrefused, sized, reasoned}
-use Rattle.search.proofs.Numbers.{numbers-few}
 use Rattle.workspace.specs.declared.Size.{Size}
 use Rattle.workspace.specs.Layout as layout
-use Rattle.workspace.specs.Layout.{base, Words, verticesOf, graphOf}
+use Rattle.workspace.specs.Layout.{base, verticesOf, graphOf}
 use Rattle.workspace.specs.Holds.{Rising, Holds}
 use Rattle.admission.proofs.Admits.{accepted-header}
 use Rattle.planner.specs.Plan.{memoryOf, Planned}
 use Rattle.planner.specs.Carried.{wordsOf}
-use Rattle.workspace.proofs.Written.{length-verticesOf}
 use Rattle.workspace.proofs.Holding.{accepted-rising, holds-vertices, holds-graph, holds-ready, holds-whole}
 use Rattle.explanation.specs.Explained.{Explained}
 use Rattle.explanation.specs.Listing.{sizeIn, isNoRoute, Held, Listable, reachedIn, leavingIn, Lists}
-
--- ---- the lists after a call
-
-listed : (a : Answer) (l : List ℕ) → isNoRoute a ≡ true → listedAt a l ≡ l
-unfolding isNoRoute listedAt
-listed (Route s) l h = absurd (true≢false (sym h))
-listed (NoRoute t) l h = refl
-listed (Unfinished t) l h = absurd (true≢false (sym h))
-listed (Refused n p) l h = absurd (true≢false (sym h))
-
-unlisted : (a : Answer) (l : List ℕ) → isNoRoute a ≡ false → listedAt a l ≡ []
-unfolding isNoRoute listedAt
-unlisted (Route s) l h = refl
-unlisted (NoRoute t) l h = absurd (true≢false h)
-unlisted (Unfinished t) l h = refl
-unlisted (Refused n p) l h = refl
-
--- numbers put at a list's front, where it has room
-put-over : {new old : List ℕ} {r : ℕ} {list : List ℕ} → Put 0 new old r list → length new ≤ length old → (r ≡ length new) × (list ≡ over new old)
-unfolding over
-put-over {new} {old} p h = (
-  omega (arith, p .next),
-  p .memory ∙ laid-zero new old ∙ ap (λ (l : List ℕ). l ++ drop (length new) old) (take-all (length old) new h),
-)
-
-module _ (a : Answer) (z : Size) (barred : ℕ) (m : Words) (vertices edges : List ℕ) where
-  pub nothing-listed : isNoRoute a ≡ false → Lists a z barred m vertices edges (record { answer = a; vertices = 0; edges = 0 }) vertices edges
-  unfolding reachedIn leavingIn over
-  nothing-listed h =
-      let v = unlisted a (numbersOf isReached 0 (verticesOf z m)) h in
-      let e = unlisted a (numbersOf (leaves barred (verticesOf z m)) 0 (graphOf z (m .work))) h in
-      record { answer-is = refl; vertex-count = rw v; edge-count = rw e; vertices-are = rw v; edges-are = rw e }
-
-  pub both-listed :
-      isNoRoute a ≡ true → Held z m vertices edges → (v e : ℕ) (vertices′ edges′ : List ℕ) → Put 0 (numbersOf isReached 0 (verticesOf z m)) vertices v vertices′ →
-      Put 0 (numbersOf (leaves barred (verticesOf z m)) 0 (graphOf z (m .work))) edges e edges′ →
-      Lists a z barred m vertices edges (record { answer = a; vertices = v; edges = e }) vertices′ edges′
-  unfolding reachedIn leavingIn
-  both-listed h y v e vertices′ edges′ p q =
-      let f = put-over p (omega (arith, numbers-few isReached 0 (verticesOf z m), length-verticesOf z m, y .vertices-room)) in
-      let g = put-over q (omega (arith, numbers-few (leaves barred (verticesOf z m)) 0 (graphOf z (m .work)), y .edge-count, y .edges-room)) in
-      let i = listed a (numbersOf isReached 0 (verticesOf z m)) h in
-      let j = listed a (numbersOf (leaves barred (verticesOf z m)) 0 (graphOf z (m .work))) h in
-      record {
-        answer-is = refl;
-        vertex-count = rw i (f .0);
-        edge-count = rw j (g .0);
-        vertices-are = rw i (f .1);
-        edges-are = rw j (g .1);
-      }
-
--- two answers list the same
-same-listed : (a b : Answer) (l k : List ℕ) → a ≡ b → (isNoRoute a ≡ true → l ≡ k) → listedAt a l ≡ listedAt b k
-same-listed a b l k q f = by (isNoRoute a) refl ∙ ap (λ (y : Answer). listedAt y k) q
-  where
-    by : (t : Bool) → isNoRoute a ≡ t → listedAt a l ≡ listedAt a k
-    by true e = ap (listedAt a) (f e)
-    by false e = unlisted a l e ∙ sym (unlisted a k e)
+use Rattle.explanation.proofs.Listed.{same-listed}
 
 same-explanation : {a b : Answer} {v w e f : ℕ} → a ≡ b → v ≡ w → e ≡ f →
     _≡_ {A = Explanation} (record { answer = a; vertices = v; edges = e }) (record { answer = b; vertices = w; edges = f })

@@ -1,7 +1,7 @@
 -- `list` meets its contract: nothing is listed, or both lists are laid.
 use mathlib.Core.Path.{sym, _∙_}
 use Rattle.graph.proofs.Tests.{not-true, not-false}
-use Rattle.explanation.proofs.Explaining.{nothing-listed, both-listed}
+use Rattle.explanation.proofs.Listed.{nothing-listed, both-listed}
 use borrow.Author.Needs.{needs}
 use Rattle.explanation.proofs.list.Statement.{statement}
 use Rattle.explanation.proofs.list.Tie as tie
