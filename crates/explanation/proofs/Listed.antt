@@ -11,12 +11,9 @@ use Rattle.text.proofs.Laid.{laid-zero}
 use Rattle.graph.specs.Lists.{over}
 use Rattle.search.specs.declared.Answer.{Answer}
 use Rattle.search.specs.declared.Answer.the-variants.{Route, NoRoute, Unfinished, Refused}
-use Rattle.search.specs.Outcome.{answer}
 use Rattle.search.specs.Reason.{numbersOf, isReached, leaves, listedAt}
-use Rattle.search.proofs.Reason as reason
 use Rattle.search.proofs.Numbers.{numbers-few}
 use Rattle.workspace.specs.declared.Size.{Size}
-use Rattle.workspace.specs.Layout as layout
 use Rattle.workspace.specs.Layout.{Words, verticesOf, graphOf}
 use Rattle.workspace.proofs.Written.{length-verticesOf}
 use Rattle.explanation.specs.Listing.{isNoRoute, Held, reachedIn, leavingIn, Lists}
