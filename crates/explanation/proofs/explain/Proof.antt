@@ -1,6 +1,7 @@
 -- `explain` meets its contract: the call, with as much route memory as the lists allow, and the lists after it.
 use mathlib.Core.Path.{sym}
 use lib.Seq.{length-take-le}
+use Rattle.search.specs.Reason.{Inquiry}
 use Rattle.planner.specs.Plan.{memoryOf, callOf}
 use Rattle.explanation.specs.Explained.{inquiryOf}
 use Rattle.explanation.proofs.Explaining.{lends, listable, explained}
@@ -17,20 +18,41 @@ route-lent-requires c κs = search needs
 slice-relend-prefix-plan : tie.Need-slice-relend-prefix-plan
 slice-relend-prefix-plan c =
     let a = c .before .before .before .before .before .before .before .before .before .before .before .before .before .args in
-    lends (inquiryOf (callOf (a .bytes .now) (a .start) (a .goal) (a .barred) (a .anchor .now) (a .guides .now) (a .guide-count) (a .schedule .now) (a .default-schedule .now) (a .budget) (memoryOf (a .route .now) (a .log .now) (a .work .now) (a .wide .now))) (a .vertices .now) (a .edges .now)) _ (c .before .size .ensures) _ (c .route-lent .ensures)
+    let x : Inquiry
+    = inquiryOf
+    (callOf (a .bytes .now) (a .start) (a .goal) (a .barred) (a .anchor .now) (a .guides .now) (a .guide-count) (a .schedule .now)
+    (a .default-schedule .now) (a .budget) (memoryOf (a .route .now) (a .log .now) (a .work .now) (a .wide .now)))
+    (a .vertices .now)
+    (a .edges .now) in
+    lends x _ (c .before .size .ensures) _ (c .route-lent .ensures)
 
 slice-aggregate-plan : tie.Need-slice-aggregate-plan
 slice-aggregate-plan c =
-    let a = c .before .before .before .before .before .before .before .before .before .before .before .before .before .before .args in
-    sym (length-take-le _ _ (lends (inquiryOf (callOf (a .bytes .now) (a .start) (a .goal) (a .barred) (a .anchor .now) (a .guides .now) (a .guide-count) (a .schedule .now) (a .default-schedule .now) (a .budget) (memoryOf (a .route .now) (a .log .now) (a .work .now) (a .wide .now))) (a .vertices .now) (a .edges .now)) _ (c .before .before .size .ensures) _ (c .before .route-lent .ensures)))
+    let k = c .before in
+    let a = k .before .before .before .before .before .before .before .before .before .before .before .before .before .args in
+    let x : Inquiry
+    = inquiryOf
+    (callOf (a .bytes .now) (a .start) (a .goal) (a .barred) (a .anchor .now) (a .guides .now) (a .guide-count) (a .schedule .now)
+    (a .default-schedule .now) (a .budget) (memoryOf (a .route .now) (a .log .now) (a .work .now) (a .wide .now)))
+    (a .vertices .now)
+    (a .edges .now) in
+    sym (length-take-le _ _ (lends x _ (k .before .size .ensures) _ (k .route-lent .ensures)))
 
 plan-requires : tie.Need-plan-requires
 plan-requires c κs = search needs
 
 list-requires : tie.Need-list-requires
 list-requires c κs =
-    let a = c .before .before .before .before .before .before .before .before .before .before .before .before .before .before .before .before .before .before .before .before .before .before .before .before .before .before .before .before .before .before .args in
-    listable (inquiryOf (callOf (a .bytes .now) (a .start) (a .goal) (a .barred) (a .anchor .now) (a .guides .now) (a .guide-count) (a .schedule .now) (a .default-schedule .now) (a .budget) (memoryOf (a .route .now) (a .log .now) (a .work .now) (a .wide .now))) (a .vertices .now) (a .edges .now)) _ (c .before .before .before .before .before .before .before .before .before .before .before .before .before .before .before .before .before .before .size .ensures) _ (c .before .before .before .before .before .before .before .before .before .before .before .before .before .before .before .before .before .route-lent .ensures) _ _ (c .before .before .before .before .before .before .before .before .before .before .before .before .plan .ensures)
+    let k = c .before .before .before .before .before .before .before .before .before .before .before .before in
+    let l = k .before .before .before .before .before in
+    let a = l .before .before .before .before .before .before .before .before .before .before .before .before .before .args in
+    let x : Inquiry
+    = inquiryOf
+    (callOf (a .bytes .now) (a .start) (a .goal) (a .barred) (a .anchor .now) (a .guides .now) (a .guide-count) (a .schedule .now)
+    (a .default-schedule .now) (a .budget) (memoryOf (a .route .now) (a .log .now) (a .work .now) (a .wide .now)))
+    (a .vertices .now)
+    (a .edges .now) in
+    listable x _ (l .before .size .ensures) _ (l .route-lent .ensures) _ _ (k .plan .ensures)
 
 same-length : tie.Need-same-length
 same-length c = search needs
@@ -52,8 +74,16 @@ same-length-6 c = search needs
 
 returns : tie.Need-returns
 returns c =
-    let a = c .before .before .before .before .before .before .before .before .before .before .before .before .before .before .before .before .before .before .before .before .before .before .before .before .before .before .before .before .before .before .before .before .before .before .before .args in
-    explained (inquiryOf (callOf (a .bytes .now) (a .start) (a .goal) (a .barred) (a .anchor .now) (a .guides .now) (a .guide-count) (a .schedule .now) (a .default-schedule .now) (a .budget) (memoryOf (a .route .now) (a .log .now) (a .work .now) (a .wide .now))) (a .vertices .now) (a .edges .now)) _ (c .before .before .before .before .before .before .before .before .before .before .before .before .before .before .before .before .before .before .before .before .before .before .before .size .ensures) _ (c .before .before .before .before .before .before .before .before .before .before .before .before .before .before .before .before .before .before .before .before .before .before .route-lent .ensures) _ _ (c .before .before .before .before .before .before .before .before .before .before .before .before .before .before .before .before .before .plan .ensures) _ _ _ (c .before .before .before .before .list .ensures)
+    let k = c .before .before .before .before .before .before .before .before .before .before .before .before .before .before .before .before .before in
+    let l = k .before .before .before .before .before in
+    let a = l .before .before .before .before .before .before .before .before .before .before .before .before .before .args in
+    let x : Inquiry
+    = inquiryOf
+    (callOf (a .bytes .now) (a .start) (a .goal) (a .barred) (a .anchor .now) (a .guides .now) (a .guide-count) (a .schedule .now)
+    (a .default-schedule .now) (a .budget) (memoryOf (a .route .now) (a .log .now) (a .work .now) (a .wide .now)))
+    (a .vertices .now)
+    (a .edges .now) in
+    explained x _ (l .before .size .ensures) _ (l .route-lent .ensures) _ _ (k .plan .ensures) _ _ _ (c .before .before .before .before .list .ensures)
 
 pub explain-spec : {M : Type 1} → statement M
 explain-spec =

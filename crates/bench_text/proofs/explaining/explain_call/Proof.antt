@@ -56,14 +56,21 @@ slice-aggregate-put-explanation-4 : tie.Need-slice-aggregate-put-explanation-4
 slice-aggregate-put-explanation-4 c = search needs
 
 put-explanation-requires : tie.Need-put-explanation-requires
-put-explanation-requires c κs = let k = c .before .before .before .before .before .before .before .before .before .before .before in explainable _ _ (c .before .before .before .before .before .before .before .before .before .before .before .before .before .before .before .before .before .before .before .size .ensures) _ _ _ _ (k .explain .ensures) (search needs) (search needs) (search needs)
+put-explanation-requires c κs =
+    let k = c .before .before .before .before .before .before .before .before .before .before .before in
+    explainable _ _ (k .before .before .before .before .before .before .before .before .size .ensures) _ _ _ _ (k .explain .ensures) (search needs) (search needs) (search needs)
 
 same-length : tie.Need-same-length
 same-length c = search needs
 
 returns : tie.Need-returns
 unfolding inquiryAsked callWith zeros
-returns c = let k = c .before .before .before .before .before .before .before .before .before .before .before .before .before .before in let p = standard-prefix _ (c .before .before .before .before .before .before .before .before .before .before .before .before .before .before .before .before .before .before .before .before .before .before .before .before .before .standard .ensures) in let h = rw (p .is) at (k .explain .ensures) in explained-text _ _ (c .before .before .before .before .before .before .before .before .before .before .before .before .before .before .before .before .before .before .before .before .before .before .size .ensures) _ _ _ _ h (c .before .before .put-explanation .ensures)
+returns c =
+    let k = c .before .before .before .before .before .before .before .before .before .before .before .before .before .before in
+    let l = k .before .before .before .before .before .before .before .before in
+    let p = standard-prefix _ (l .before .before .before .standard .ensures) in
+    let h = rw (p .is) at (k .explain .ensures) in
+    explained-text _ _ (l .size .ensures) _ _ _ _ h (c .before .before .put-explanation .ensures)
 
 pub explain-call-spec : {M : Type 1} → statement M
 explain-call-spec =
