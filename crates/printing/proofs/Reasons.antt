@@ -23,26 +23,32 @@ use Rattle.job.specs.Texts.{Texts}
 use Rattle.job.proofs.Lines.{Words, no-route-few, reach-few, edges-few}
 use Rattle.printing.specs.Shown.{Listed, ExplainedShown}
 
-module _ (turns n k : ℕ) (z : Size) (work vertices edges : List ℕ) (small : turns < 2 ^ 32) (words : Words vertices)
-    (l : Listed z work vertices (take k edges)) where
-  pub first-few : length (noRouteLine turns) ≤ 36
-  first-few = no-route-few turns (omega arith)
+-- the lines of a reason, none of them long
+pub record Short (turns n k : ℕ) (z : Size) (work vertices edges : List ℕ) : Type 0 where
+  pub first : length (noRouteLine turns) ≤ 36
+  pub second : length (reachLine (take n vertices)) ≤ 6 + routeSize * 11
+  pub third : length (each (edgeLine (graphOf z work)) 0 (take k edges)) ≤ maxJobEdges * 88
 
-  pub second-few : length (reachLine (take n vertices)) ≤ 6 + routeSize * 11
-  second-few = reach-few n vertices words (l .short-vertices)
+pub short-lines :
+    (turns n k : ℕ) (z : Size) (work vertices edges : List ℕ) → turns < 2 ^ 32 → Words vertices → Listed z work vertices (take k edges) →
+    Short turns n k z work vertices edges
+short-lines turns n k z work vertices edges small words l =
+    record {
+      first = no-route-few turns (omega arith);
+      second = reach-few n vertices words (l .short-vertices);
+      third = edges-few (graphOf z work) (take k edges) (l .short-edges) (λ i h. l .lines _ (l .numbers i h));
+    }
 
-  pub third-few : length (each (edgeLine (graphOf z work)) 0 (take k edges)) ≤ maxJobEdges * 88
-  third-few = edges-few (graphOf z work) (take k edges) (l .short-edges) (λ i h. l .lines _ (l .numbers i h))
-
-  pub reason-text :
-      {old : List ℕ} {at : ℕ} {mid : List ℕ} {end : ℕ} {near : List ℕ} {r : ℕ} {new : List ℕ} → Put 0 (noRouteLine turns) old at mid →
-      Put at (reachLine (take n vertices)) mid end near → Put end (each (edgeLine (graphOf z work)) 0 (take k edges)) near r new →
-      Texts (noRouteLine turns ++ (reachLine (take n vertices) ++ each (edgeLine (graphOf z work)) 0 (take k edges))) old r new
-  reason-text first second third =
-      record {
-        put = then-put first (then-put second third);
-        few = omega (arith, first-few, second-few, third-few, first .next, second .next, third .next);
-      }
+pub reason-text :
+    {turns n k : ℕ} {z : Size} {work vertices edges : List ℕ} {old : List ℕ} {at : ℕ} {mid : List ℕ} {end : ℕ} {near : List ℕ} {r : ℕ} {new : List ℕ} →
+    Short turns n k z work vertices edges → Put 0 (noRouteLine turns) old at mid → Put at (reachLine (take n vertices)) mid end near →
+    Put end (each (edgeLine (graphOf z work)) 0 (take k edges)) near r new →
+    Texts (noRouteLine turns ++ (reachLine (take n vertices) ++ each (edgeLine (graphOf z work)) 0 (take k edges))) old r new
+reason-text f first second third =
+    record {
+      put = then-put first (then-put second third);
+      few = omega (arith, f .first, f .second, f .third, first .next, second .next, third .next);
+    }
 
 -- an ending that lists nothing
 pub nothing-after : (text : List ℕ) {old : List ℕ} {r : ℕ} {new : List ℕ} → Texts text old r new → Texts (text ++ []) old r new

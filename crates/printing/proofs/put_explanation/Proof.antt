@@ -45,26 +45,40 @@ same-length : tie.Need-same-length
 same-length c = search needs
 
 returns : tie.Need-returns
-returns c = let a = c .before .before .before .before .before .before .before .before .before .before .before .before in let e = c .before .before .put-route-end .ensures in route-shown (a .args .explanation) (a .args .route .now) (graphOf (a .args .z) (a .args .work .now)) (a .args .vertices .now) (a .args .edges .now) _ (c .before .before .before .before .before .answer .given .1) (record { put = e .0; few = omega (arith, e .1) })
+returns c =
+    let a = c .before .before .before .before .before .before .before .before .before .before .before .before .args in
+    let e = c .before .before .put-route-end .ensures in
+    route-shown (a .explanation) (a .route .now) (graphOf (a .z) (a .work .now)) (a .vertices .now) (a .edges .now) _ (c .before .before .before .before .before .answer .given .1)
+    (record { put = e .0; few = omega (arith, e .1) })
 
 same-length-2 : tie.Need-same-length-2
 same-length-2 c = search needs
 
 returns-2 : tie.Need-returns-2
-returns-2 c = let a = c .before .before .before .before .before .before .before .before .before .before .before .before in none-shown (a .args .explanation) (a .args .route .now) (graphOf (a .args .z) (a .args .work .now)) (a .args .vertices .now) (a .args .edges .now) _ (c .before .before .before .before .before .answer2 .given .1) (c .before .before .put-reason .ensures)
+returns-2 c =
+    let a = c .before .before .before .before .before .before .before .before .before .before .before .before .args in
+    none-shown (a .explanation) (a .route .now) (graphOf (a .z) (a .work .now)) (a .vertices .now) (a .edges .now) _ (c .before .before .before .before .before .answer2 .given .1)
+    (c .before .before .put-reason .ensures)
 
 same-length-3 : tie.Need-same-length-3
 same-length-3 c = search needs
 
 returns-3 : tie.Need-returns-3
 unfolding ascii unfinishedLine
-returns-3 c = let a = c .before .before .before .before .before .before .before .before .before .before .before .before .before in unfinished-shown (a .args .explanation) (a .args .route .now) (graphOf (a .args .z) (a .args .work .now)) (a .args .vertices .now) (a .args .edges .now) _ (c .before .before .before .before .before .before .answer3 .given .1) (alone (omega (arith, unfinished-few (c .before .before .before .before .before .before .answer3 .given .0 .0) (omega arith))) (c .before .before .put-turns-line .ensures))
+returns-3 c =
+    let k = c .before .before .before .before .before .before in
+    let a = k .before .before .before .before .before .before .before .args in
+    unfinished-shown (a .explanation) (a .route .now) (graphOf (a .z) (a .work .now)) (a .vertices .now) (a .edges .now) _ (k .answer3 .given .1)
+    (alone (omega (arith, unfinished-few (k .answer3 .given .0 .0) (omega arith))) (c .before .before .put-turns-line .ensures))
 
 same-length-4 : tie.Need-same-length-4
 same-length-4 c = search needs
 
 returns-4 : tie.Need-returns-4
-returns-4 c = let a = c .before .before .before .before .before .before .before .before .before .before .before .before in refused-shown (a .args .explanation) (a .args .route .now) (graphOf (a .args .z) (a .args .work .now)) (a .args .vertices .now) (a .args .edges .now) _ _ (c .before .before .before .before .before .answer4 .given .1) (c .before .before .put-refused .ensures)
+returns-4 c =
+    let a = c .before .before .before .before .before .before .before .before .before .before .before .before .args in
+    refused-shown (a .explanation) (a .route .now) (graphOf (a .z) (a .work .now)) (a .vertices .now) (a .edges .now) _ _ (c .before .before .before .before .before .answer4 .given .1)
+    (c .before .before .put-refused .ensures)
 
 pub put-explanation-spec : {M : Type 1} → statement M
 put-explanation-spec =

@@ -13,13 +13,17 @@ put-vertices-requires : tie.Need-put-vertices-requires
 put-vertices-requires c κs = omega (arith, simp length-append at (c .before .before .before .before .before .before .before .before .pre), c .before .before .before .put-word .ensures .next)
 
 put-byte-requires : tie.Need-put-byte-requires
-put-byte-requires c κs = omega (arith, simp length-append at (c .before .before .before .before .before .before .before .before .before .before .before .before .pre), c .before .before .before .before .before .before .before .put-word .ensures .next, c .before .before .before .put-vertices .ensures .next)
+put-byte-requires c κs =
+    let k = c .before .before .before .before .before .before .before in
+    omega (arith, simp length-append at (k .before .before .before .before .before .pre), k .put-word .ensures .next, c .before .before .before .put-vertices .ensures .next)
 
 same-length : tie.Need-same-length
 same-length c = search needs
 
 returns : tie.Need-returns
-returns c = then-put (then-put (c .before .before .before .before .before .before .before .before .before .before .put-word .ensures) (c .before .before .before .before .before .before .put-vertices .ensures)) (c .before .before .put-byte .ensures)
+returns c =
+    let k = c .before .before .before .before .before .before in
+    then-put (then-put (k .before .before .before .before .put-word .ensures) (k .put-vertices .ensures)) (c .before .before .put-byte .ensures)
 
 pub put-vertices-line-spec : {M : Type 1} → statement M
 put-vertices-line-spec =

@@ -40,18 +40,28 @@ slice-aggregate-put-field-5 c = search needs
 
 put-field-requires-5 : tie.Need-put-field-requires-5
 unfolding ascii field barredLine
-put-field-requires-5 c κs = omega (arith, simp length-append at (c .before .before .before .before .before .before .before .before .before .before .before .before .before .before .before .before .before .before .before .before .before .before .before .pre))
+put-field-requires-5 c κs =
+    let k = c .before .before .before .before .before .before .before .before .before in
+    omega (arith, simp length-append at (k .before .before .before .before .before .before .before .before .before .before .before .before .before .before .pre))
 
 put-byte-requires : tie.Need-put-byte-requires
 unfolding ascii field barredLine
-put-byte-requires c κs = omega (arith, simp length-append at (c .before .before .before .before .before .before .before .before .before .before .before .before .before .before .before .before .before .before .before .before .before .before .before .before .before .before .before .pre))
+put-byte-requires c κs =
+    let k = c .before .before .before .before .before .before .before .before .before .before .before .before .before in
+    omega (arith, simp length-append at (k .before .before .before .before .before .before .before .before .before .before .before .before .before .before .pre))
 
 same-length : tie.Need-same-length
 same-length c = search needs
 
 returns : tie.Need-returns
 unfolding ascii barredLine
-returns c = then-put (then-put (then-put (then-put (then-put (c .before .before .before .before .before .before .before .before .before .before .before .before .before .before .before .before .before .before .before .before .before .before .before .before .before .before .put-field .ensures) (c .before .before .before .before .before .before .before .before .before .before .before .before .before .before .before .before .before .before .before .before .before .put-field2 .ensures)) (c .before .before .before .before .before .before .before .before .before .before .before .before .before .before .before .before .put-field3 .ensures)) (c .before .before .before .before .before .before .before .before .before .before .before .put-field4 .ensures)) (c .before .before .before .before .before .before .put-field5 .ensures)) (c .before .before .put-byte .ensures)
+returns c =
+    let f5 = c .before .before .before .before .before .before in
+    let f4 = f5 .before .before .before .before .before in
+    let f3 = f4 .before .before .before .before .before in
+    let f2 = f3 .before .before .before .before .before in
+    let two = then-put (f2 .before .before .before .before .before .put-field .ensures) (f2 .put-field2 .ensures) in
+    then-put (then-put (then-put (then-put two (f3 .put-field3 .ensures)) (f4 .put-field4 .ensures)) (f5 .put-field5 .ensures)) (c .before .before .put-byte .ensures)
 
 pub put-barred-line-spec : {M : Type 1} → statement M
 put-barred-line-spec =

@@ -24,7 +24,9 @@ lesser-requires : tie.Need-lesser-requires Inv-loop μ-loop
 lesser-requires c κs = search needs
 
 loop-holds : tie.Need-loop-holds Inv-loop μ-loop
-loop-holds c = (none-each (edgeLine (graphOf (c .before .before .before .before .args .z) (c .before .before .before .before .args .work .now))) 0 (c .before .before .before .before .args .at) (c .before .before .before .before .args .list .now) (c .before .before .before .before .args .out .now), search needs)
+loop-holds c =
+    let a = c .before .before .before .before .args in
+    (none-each (edgeLine (graphOf (a .z) (a .work .now))) 0 (a .at) (a .list .now) (a .out .now), search needs)
 
 mul-put-edge-line : tie.Need-mul-put-edge-line Inv-loop μ-loop
 mul-put-edge-line c = search needs
@@ -51,13 +53,21 @@ loop-less c = search needs
 
 loop-again : tie.Need-loop-again Inv-loop μ-loop
 unfolding edgeLine
-loop-again c = let k = c .before .before .before .before .before .before in let l = k .loop in let a = k .before .before .before .before .before .args in (next-each (edgeLine (graphOf (a .z) (a .work .now))) 0 (l .i) (a .list .now) (omega arith) (l .inv .0) (c .before .before .put-edge-line .ensures), search needs)
+loop-again c =
+    let k = c .before .before .before .before .before .before in
+    let l = k .loop in
+    let a = k .before .before .before .before .before .args in
+    let e = c .before .before .put-edge-line .ensures in
+    (next-each (edgeLine (graphOf (a .z) (a .work .now))) 0 (l .i) (a .list .now) (omega arith) (l .inv .0) e, search needs)
 
 same-length : tie.Need-same-length Inv-loop μ-loop
 same-length c = put-length (c .before .loop .inv .0)
 
 returns : tie.Need-returns Inv-loop μ-loop
-returns c = let l = c .before .loop in let a = c .before .before .before .before .before .before .args in rw (take-lesser (a .count) (l .i) (a .list .now) (omega arith)) at (l .inv .0)
+returns c =
+    let l = c .before .loop in
+    let a = c .before .before .before .before .before .before .args in
+    rw (take-lesser (a .count) (l .i) (a .list .now) (omega arith)) at (l .inv .0)
 
 pub put-edge-lines-spec : {M : Type 1} → statement M
 put-edge-lines-spec =

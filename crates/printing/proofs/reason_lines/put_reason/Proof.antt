@@ -1,7 +1,7 @@
 -- `put_reason` meets its contract: that there is no route, what can be reached, and the barred edges that leave it.
 use native.Mathlib.Omega.{arith}
 use Rattle.text.specs.Text.{ascii, noRouteLine}
-use Rattle.printing.proofs.Reasons.{first-few, second-few, third-few, reason-text}
+use Rattle.printing.proofs.Reasons.{short-lines, reason-text}
 use borrow.Author.Needs.{needs}
 use Rattle.printing.proofs.reason_lines.put_reason.Statement.{statement}
 use Rattle.printing.proofs.reason_lines.put_reason.Tie as tie
@@ -11,14 +11,22 @@ slice-aggregate-put-turns-line c = search needs
 
 put-turns-line-requires : tie.Need-put-turns-line-requires
 unfolding ascii noRouteLine
-put-turns-line-requires c κs = let a = c .before .before .before .before .before .before in omega (arith, first-few (a .args .turns) (a .args .explanation .vertices) (a .args .explanation .edges) (a .args .z) (a .args .work .now) (a .args .vertices .now) (a .args .edges .now) (omega arith) (c .before .before .before .shared-slice-known2 .given) (a .pre))
+put-turns-line-requires c κs =
+    let s = c .before .before .before .before .before .before in
+    let a = s .args in
+    let f = short-lines (a .turns) (a .explanation .vertices) (a .explanation .edges) (a .z) (a .work .now) (a .vertices .now) (a .edges .now) (omega arith) (c .before .before .before .shared-slice-known2 .given) (s .pre) in
+    omega (arith, f .first)
 
 cast-put-reach-line : tie.Need-cast-put-reach-line
 cast-put-reach-line c = search needs
 
 put-reach-line-requires : tie.Need-put-reach-line-requires
 unfolding ascii noRouteLine
-put-reach-line-requires c κs = let a = c .before .before .before .before .before .before .before .before .before .before .before in let w = c .before .before .before .before .before .before .before .before .shared-slice-known2 .given in omega (arith, c .before .before .before .before .put-turns-line .ensures .next, first-few (a .args .turns) (a .args .explanation .vertices) (a .args .explanation .edges) (a .args .z) (a .args .work .now) (a .args .vertices .now) (a .args .edges .now) (omega arith) w (a .pre), second-few (a .args .turns) (a .args .explanation .vertices) (a .args .explanation .edges) (a .args .z) (a .args .work .now) (a .args .vertices .now) (a .args .edges .now) (omega arith) w (a .pre))
+put-reach-line-requires c κs =
+    let s = c .before .before .before .before .before .before .before .before .before .before .before in
+    let a = s .args in
+    let f = short-lines (a .turns) (a .explanation .vertices) (a .explanation .edges) (a .z) (a .work .now) (a .vertices .now) (a .edges .now) (omega arith) (c .before .before .before .before .before .before .before .before .shared-slice-known2 .given) (s .pre) in
+    omega (arith, c .before .before .before .before .put-turns-line .ensures .next, f .first, f .second)
 
 cast-put-edge-lines : tie.Need-cast-put-edge-lines
 cast-put-edge-lines c = search needs
@@ -26,19 +34,24 @@ cast-put-edge-lines c = search needs
 put-edge-lines-requires : tie.Need-put-edge-lines-requires
 unfolding ascii noRouteLine
 put-edge-lines-requires c κs =
-    let a = c .before .before .before .before .before .before .before .before .before .before .before .before .before .before .before .before in
-    let w = c .before .before .before .before .before .before .before .before .before .before .before .before .before .shared-slice-known2 .given in (
-      a .pre .whole,
-      a .pre .numbers,
-      omega (arith, c .before .before .before .before .before .before .before .before .before .put-turns-line .ensures .next, c .before .before .before .before .put-reach-line .ensures .next, first-few (a .args .turns) (a .args .explanation .vertices) (a .args .explanation .edges) (a .args .z) (a .args .work .now) (a .args .vertices .now) (a .args .edges .now) (omega arith) w (a .pre), second-few (a .args .turns) (a .args .explanation .vertices) (a .args .explanation .edges) (a .args .z) (a .args .work .now) (a .args .vertices .now) (a .args .edges .now) (omega arith) w (a .pre), third-few (a .args .turns) (a .args .explanation .vertices) (a .args .explanation .edges) (a .args .z) (a .args .work .now) (a .args .vertices .now) (a .args .edges .now) (omega arith) w (a .pre)),
-    )
+    let s = c .before .before .before .before .before .before .before .before .before .before .before .before .before .before .before .before in
+    let a = s .args in
+    let f = short-lines (a .turns) (a .explanation .vertices) (a .explanation .edges) (a .z) (a .work .now) (a .vertices .now) (a .edges .now) (omega arith) (c .before .before .before .before .before .before .before .before .before .before .before .before .before .shared-slice-known2 .given) (s .pre) in
+    let first = c .before .before .before .before .before .before .before .before .before .put-turns-line .ensures in
+    let second = c .before .before .before .before .put-reach-line .ensures in
+    (s .pre .whole, s .pre .numbers, omega (arith, first .next, second .next, f .first, f .second, f .third))
 
 same-length : tie.Need-same-length
 same-length c = search needs
 
 returns : tie.Need-returns
 unfolding ascii noRouteLine
-returns c = let a = c .before .before .before .before .before .before .before .before .before .before .before .before .before .before .before .before .before .before .before in reason-text (a .args .turns) (a .args .explanation .vertices) (a .args .explanation .edges) (a .args .z) (a .args .work .now) (a .args .vertices .now) (a .args .edges .now) (omega arith) (c .before .before .before .before .before .before .before .before .before .before .before .before .before .before .before .before .shared-slice-known2 .given) (a .pre) (c .before .before .before .before .before .before .before .before .before .before .before .before .put-turns-line .ensures) (c .before .before .before .before .before .before .before .put-reach-line .ensures) (c .before .before .put-edge-lines .ensures)
+returns c =
+    let s = c .before .before .before .before .before .before .before .before .before .before .before .before .before .before .before .before .before .before .before in
+    let a = s .args in
+    let f = short-lines (a .turns) (a .explanation .vertices) (a .explanation .edges) (a .z) (a .work .now) (a .vertices .now) (a .edges .now) (omega arith) (c .before .before .before .before .before .before .before .before .before .before .before .before .before .before .before .before .shared-slice-known2 .given) (s .pre) in
+    let k = c .before .before .before .before .before .before .before in
+    reason-text f (k .before .before .before .before .before .put-turns-line .ensures) (k .put-reach-line .ensures) (c .before .before .put-edge-lines .ensures)
 
 pub put-reason-spec : {M : Type 1} → statement M
 put-reason-spec =
