@@ -1,5 +1,5 @@
-//! Seeded jobs whose goal is cut off from the start: by barred lanes, by lanes
-//! that lack, or by both; with barred lanes inside what can be reached, back
+//! Seeded jobs whose goal is cut off from the start: by barred lanes, for want
+//! of lanes, or by both; with barred lanes inside what can be reached, back
 //! into it and beyond it.
 
 use crate::generate::Plan;

@@ -1,6 +1,6 @@
-//! The reason for no route, written from the papers alone: the places that
-//! the tug can reach, found by a search in breadth over permitted lanes, and
-//! the barred lanes that leave them; the call around it; its lines.
+//! The reason for no route, written from the papers and the header alone: the
+//! places that the tug can reach, found by a search in breadth over permitted
+//! lanes, and the barred lanes that leave them; the call around it; its lines.
 //!
 //! Whether there is a route is the second planner's answer. What it leaves in
 //! memory is not looked at: the lists come from the plan alone.

@@ -4,6 +4,7 @@
 
 use std::collections::BTreeSet;
 
+use crate::bench_text::refused;
 use crate::explanation::edges_of;
 use crate::jobs::Job;
 use crate::planner::Answer;
@@ -20,7 +21,7 @@ pub fn text(explained: &Explained) -> String {
         }
         Answer::Unfinished { turns } => unfinished(job, turns),
         Answer::NoRoute { .. } => no_route(explained),
-        Answer::Refused { number, position } => format!("refused {number} at {position}\n"),
+        Answer::Refused { number, position } => refused(number, position),
     }
 }
 
@@ -53,13 +54,13 @@ fn no_route(explained: &Explained) -> String {
         false => format!(
             "{reached}{}whether it then comes to place {goal} is not said here: run the job \
              again with fewer classes barred\n",
-            held_up_by(&leaving)
+            leaving_words(&leaving)
         ),
     }
 }
 
 /// The barred lanes that leave what can be reached, a line for each.
-fn held_up_by(lanes: &[(u32, Edge)]) -> String {
+fn leaving_words(lanes: &[(u32, Edge)]) -> String {
     let classes = BTreeSet::from_iter(lanes.iter().map(|(_, edge)| edge.class));
     let classes = class_words(&Vec::from_iter(classes));
     let title = match lanes.len() {

@@ -1,6 +1,6 @@
-//! Plans a job of any size and prints it in the bench program's words: those
-//! that the bench program takes through its text, larger ones and those with
-//! a sheet for the default schedule through the planner call.
+//! Plans or explains a job of any size and prints it in the bench program's
+//! words: those that the bench program takes through its texts, larger ones
+//! and those with a sheet for the default schedule through the calls.
 
 use crate::bench_text::{answer_text, logged, refused};
 use crate::default_schedule::DefaultSchedule;

@@ -1,9 +1,8 @@
 -- What an explanation leaves in memory has the lines that are printed of it.
-use Prim.Native.Nat.{ℕ, zero, suc, _≤_, _<_}
-use native.Mathlib.Nat.{not-suc-le-zero, le-of-suc-le-suc}
+use Prim.Native.Nat.{ℕ, _≤_, _<_}
 use native.Mathlib.Omega.{arith}
 use mathlib.Core.Path.{_≡_, refl, sym, ap, _∙_}
-use mathlib.Core.List.{List, [], _∷_, List·Memᴰ, List·Memᴰ·head, List·Memᴰ·tail}
+use mathlib.Core.List.{List}
 use lib.ListN.{length, getD, take, length-take}
 use Rattle.graph.specs.declared.Edge.{Edge}
 use Rattle.graph.specs.Plan.{header}
@@ -18,6 +17,7 @@ use Rattle.search.specs.Admitted.{Admitted}
 use Rattle.search.specs.Outcome.{Ending, route, noRoute, unfinished, refused, figures}
 use Rattle.search.specs.Reason.{Inquiry, inquiryFault, answered, lastVertices, explanation}
 use Rattle.search.proofs.Admitted.{exact, plan-edges}
+use Rattle.search.proofs.Tools.{getD-in}
 use Rattle.search.proofs.Reason.{unrefused, no-fault}
 use Rattle.workspace.specs.declared.Size.{Size}
 use Rattle.workspace.specs.Layout.{graphOf}
@@ -32,12 +32,6 @@ use Rattle.job.specs.Asked.{routeSize}
 use Rattle.job.specs.Explained.{edgeLine, reasonLines, inquiryText}
 use Rattle.job.specs.Texts.{Texts}
 use Rattle.printing.specs.Shown.{Explainable, ExplainedShown}
-
--- an element is one of its list
-is-member : {A : Type 0} (l : List A) (i : ℕ) (d : A) → i < length l → List·Memᴰ (getD l i d) l
-is-member [] i d h = absurd (not-suc-le-zero h)
-is-member (x ∷ xs) zero d h = List·Memᴰ·head refl
-is-member (x ∷ xs) (suc i) d h = List·Memᴰ·tail (is-member xs i d (le-of-suc-le-suc h))
 
 -- the graph counts only where there is no route
 same-lines : (e : Ending) (g h : List Edge) (a b : List ℕ) → (e ≡ noRoute → g ≡ h) → reasonLines e g a b ≡ reasonLines e h a b
@@ -76,13 +70,13 @@ module _ (x : Inquiry) (z : Size) (size-is : z ≡ sizeIn (header (x .call .byte
     unfolding edgeLine
     lines j l =
         let e : Edge = getD (planEdges c) j (record { tail = 0; head = 0; cost = 0; class = 0 }) in
-        let w : EdgeWithin (y .size) e = within .each e (is-member (planEdges c) j _ (omega (arith, l, held .edges))) in
+        let w : EdgeWithin (y .size) e = within .each e (getD-in (planEdges c) j _ (omega (arith, l, held .edges))) in
         rw graph-there
         (length-barred-line 10 (omega arith) j (e .tail) (e .head) (e .cost) (e .class) (omega (arith, l, held .edges, within .edges))
         (omega (arith, w .tail, within .vertices)) (omega (arith, w .head, within .vertices)) (omega (arith, w .cost)) (omega (arith, w .class)))
 
     numbers : (i : ℕ) → i < length (take (r .edges) edges) → getD (take (r .edges) edges) i 0 < z .edges
-    numbers i l = omega (arith, k .says h .leaves _ .0 (is-member (take (r .edges) edges) i 0 l) .number, held .edges)
+    numbers i l = omega (arith, k .says h .leaves _ .0 (getD-in (take (r .edges) edges) i 0 l) .number, held .edges)
 
   pub explainable :
       length (m .route) ≤ routeSize → length vertices ≤ maxJobVertices → length edges ≤ maxJobEdges →

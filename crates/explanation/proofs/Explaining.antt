@@ -33,7 +33,7 @@ use Rattle.planner.specs.Plan.{memoryOf, Planned}
 use Rattle.planner.specs.Carried.{wordsOf}
 use Rattle.workspace.proofs.Holding.{accepted-rising, holds-vertices, holds-graph, holds-ready, holds-whole}
 use Rattle.explanation.specs.Explained.{Explained}
-use Rattle.explanation.specs.Listing.{sizeIn, isNoRoute, Held, Listable, reachedIn, leavingIn, Lists}
+use Rattle.explanation.specs.Listing.{sizeIn, isNoRoute, Source, Listable, reachedIn, leavingIn, Lists}
 use Rattle.explanation.proofs.Listed.{same-listed}
 
 same-explanation : {a b : Answer} {v w e f : ℕ} → a ≡ b → v ≡ w → e ≡ f →
@@ -83,7 +83,7 @@ module _ (x : Inquiry) (z : Size) (size-is : z ≡ sizeIn (header (x .call .byte
   record Answers (a : Answer) (m : Memory) : Type 0 where
     answer-is : a ≡ answered x
     memory-is : m ≡ callMemory x
-    held : isNoRoute a ≡ true → Held z (wordsOf m) (x .vertices) (x .edges)
+    source : isNoRoute a ≡ true → Source z (wordsOf m) (x .vertices) (x .edges)
     vertices : isNoRoute a ≡ true → verticesOf z (wordsOf m) ≡ lastVertices c
     edges : isNoRoute a ≡ true → graphOf z (m .work) ≡ planEdges c
 
@@ -178,7 +178,7 @@ module _ (x : Inquiry) (z : Size) (size-is : z ≡ sizeIn (header (x .call .byte
           record {
             answer-is = k .answers ∙ ap (answerIn c) (sym same-fault);
             memory-is = k .memory-is ∙ ap (memoryIn c) (sym same-fault);
-            held = λ e.
+            source = λ e.
                 let o = holds-here e in
                 record {
                   ready = holds-ready z _ _ _ _ o;
@@ -232,7 +232,7 @@ module _ (x : Inquiry) (z : Size) (size-is : z ≡ sizeIn (header (x .call .byte
           record {
             answer-is = q ∙ rw e refl;
             memory-is = ap (withRest 0 c) u ∙ rw e refl;
-            held = λ t. absurd (true≢false (sym t ∙ ap isNoRoute q));
+            source = λ t. absurd (true≢false (sym t ∙ ap isNoRoute q));
             vertices = λ t. absurd (true≢false (sym t ∙ ap isNoRoute q));
             edges = λ t. absurd (true≢false (sym t ∙ ap isNoRoute q));
           }
@@ -259,7 +259,7 @@ module _ (x : Inquiry) (z : Size) (size-is : z ≡ sizeIn (header (x .call .byte
               subst (λ (i : ℕ). Planned (lentTo i c) a m → Answers a (withRest i c m)) (sym e) (whole-lent h a m) k
 
       pub listable : Listable a z (wordsOf m) (x .vertices) (x .edges)
-      listable e = answers .held e
+      listable e = answers .source e
 
       module _ (r : Explanation) (vertices edges : List ℕ) (l : Lists a z (c .barred) (wordsOf m) (x .vertices) (x .edges) r vertices edges) where
         vertices-same : reachedIn a z (wordsOf m) ≡ verticesListed x

@@ -16,7 +16,7 @@ use Rattle.search.proofs.Numbers.{numbers-few}
 use Rattle.workspace.specs.declared.Size.{Size}
 use Rattle.workspace.specs.Layout.{Words, verticesOf, graphOf}
 use Rattle.workspace.proofs.Written.{length-verticesOf}
-use Rattle.explanation.specs.Listing.{isNoRoute, Held, reachedIn, leavingIn, Lists}
+use Rattle.explanation.specs.Listing.{isNoRoute, Source, reachedIn, leavingIn, Lists}
 
 listed : (a : Answer) (l : List ℕ) → isNoRoute a ≡ true → listedAt a l ≡ l
 unfolding isNoRoute listedAt
@@ -49,7 +49,7 @@ module _ (a : Answer) (z : Size) (barred : ℕ) (m : Words) (vertices edges : Li
       record { answer-is = refl; vertex-count = rw v; edge-count = rw e; vertices-are = rw v; edges-are = rw e }
 
   pub both-listed :
-      isNoRoute a ≡ true → Held z m vertices edges → (v e : ℕ) (vertices′ edges′ : List ℕ) → Put 0 (numbersOf isReached 0 (verticesOf z m)) vertices v vertices′ →
+      isNoRoute a ≡ true → Source z m vertices edges → (v e : ℕ) (vertices′ edges′ : List ℕ) → Put 0 (numbersOf isReached 0 (verticesOf z m)) vertices v vertices′ →
       Put 0 (numbersOf (leaves barred (verticesOf z m)) 0 (graphOf z (m .work))) edges e edges′ →
       Lists a z barred m vertices edges (record { answer = a; vertices = v; edges = e }) vertices′ edges′
   unfolding reachedIn leavingIn

@@ -28,7 +28,7 @@ isNoRoute (Unfinished t) = false
 isNoRoute (Refused n p) = false
 
 -- memory from which lists are made, and room for them
-pub record Held (z : Size) (m : Words) (vertices edges : List ℕ) : Type 0 where
+pub record Source (z : Size) (m : Words) (vertices edges : List ℕ) : Type 0 where
   pub ready : Ready z m
   pub whole : Whole z (m .work)
   pub edge-count : length (graphOf z (m .work)) ≡ z .edges
@@ -37,7 +37,7 @@ pub record Held (z : Size) (m : Words) (vertices edges : List ℕ) : Type 0 wher
 
 -- what is asked after a call with this answer
 abbrev pub Listable : Answer → Size → Words → List ℕ → List ℕ → Type 0
-Listable a z m vertices edges = isNoRoute a ≡ true → Held z m vertices edges
+Listable a z m vertices edges = isNoRoute a ≡ true → Source z m vertices edges
 
 -- what is listed then
 unfoldable pub reachedIn : Answer → Size → Words → List ℕ

@@ -10,11 +10,11 @@ use Rattle.job.specs.Reading.{jobRead}
 use Rattle.job.specs.Asked.{routeSize, logSize, callAsked}
 use Rattle.job.specs.Printed.{benchText, EveryTurn}
 
--- no text ends longer: the route line, the end line
+-- the most bytes of `lastLines`: the route line and the end line
 abbrev pub maxEnd : ℕ
 maxEnd = 6 + routeSize * 11 + 112
 
--- no text is longer: a turn line for each log word, and how it ends (the lines of an explanation are fewer)
+-- no text is longer: a turn line for each log word, and the last lines; an explanation, which has no turn lines, takes fewer bytes
 abbrev pub maxText : ℕ
 maxText = logSize * 35 + maxEnd
 

@@ -51,7 +51,7 @@ reason-text f first second third =
     }
 
 -- an ending that lists nothing
-pub nothing-after : (text : List ℕ) {old : List ℕ} {r : ℕ} {new : List ℕ} → Texts text old r new → Texts (text ++ []) old r new
+nothing-after : (text : List ℕ) {old : List ℕ} {r : ℕ} {new : List ℕ} → Texts text old r new → Texts (text ++ []) old r new
 nothing-after text {old} {r} {new} t = subst (λ (l : List ℕ). Texts l old r new) (sym (append-nil text)) t
 
 -- ---- by the answer's cases

@@ -28,7 +28,7 @@ Refuses n p old r new = Texts (refusedLine n p) old r new
 abbrev pub Numbers : Size → List ℕ → Type 0
 Numbers z list = (i : ℕ) → i < length list → getD list i 0 < z .edges
 
--- what the lines of both lists ask: edges in work memory with lines that are not long, and lists no longer than a bench job's
+-- what the lines of both lists ask: edges in work memory whose lines have at most 88 bytes, numbers of such edges, and lists no longer than a bench job's
 pub record Listed (z : Size) (work vertices listed : List ℕ) : Type 0 where
   pub whole : Whole z work
   pub lines : (j : ℕ) → j < z .edges → length (edgeLine (graphOf z work) 0 j) ≤ 88

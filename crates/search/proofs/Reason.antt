@@ -3,8 +3,8 @@ use mathlib.Core.Path.{_≡_, refl, sym, _∙_, subst}
 use mathlib.Core.Logic.{_↔_}
 use mathlib.Core.Bool.{Bool, true, false, true≢false, cond, not, _&&_, _||_}
 use mathlib.Core.List.{List, [], _∷_, _++_, List·Memᴰ}
-use Prim.Native.Nat.{ℕ, zero, suc, _+_, _≤_, _<_}
-use native.Mathlib.Nat.{zero-add, not-suc-le-zero, le-of-suc-le-suc}
+use Prim.Native.Nat.{ℕ, _+_, _≤_, _<_}
+use native.Mathlib.Nat.{zero-add}
 use native.Mathlib.Omega.{arith}
 use lib.ListN.{length, getD}
 use lib.Dec.{ltb}
@@ -28,7 +28,7 @@ use Rattle.search.specs.Rounds.{begin, run, search}
 use Rattle.search.specs.Call.{Call, scheduleOf, row, first, endsRow, tablesRow, memoryRow, goalRow, callRows, anchorRows, faultIn, faultOf, planEdges, jobIn, jobFrom, jobOf}
 use Rattle.search.specs.Outcome.{noRoute, figures, outcome, answerOf, answerIn, answer, memoryIn, memoryAfter}
 use Rattle.search.specs.Reason.{Inquiry, listsRow, inquiryFaultIn, inquiryFault, answered, callMemory, numbersOf, isReached, leaves, lastVertices, reached, leaving, listedAt, verticesListed, edgesListed, Leaves, Reason, ListRoom, withoutRoute, Reasoned}
-use Rattle.search.proofs.Tools.{le-cases, reached-inside}
+use Rattle.search.proofs.Tools.{le-cases, reached-inside, any-default}
 use Rattle.search.proofs.Facts.{Valid}
 use Rattle.search.proofs.Paths.{further, path-of, walk-of}
 use Rattle.search.proofs.Standing.{begin-good, run-good}
@@ -60,11 +60,6 @@ module _ (st : List Vertex) where
   -- ---- the edges that leave it
 
   module _ (b : ℕ) (es : List Edge) (j : ℕ) where
-    any-default : (xs : List Edge) (i : ℕ) → i < length xs → (d e : Edge) → getD xs i d ≡ getD xs i e
-    any-default [] i h d e = absurd (not-suc-le-zero h)
-    any-default (x ∷ xs) zero h d e = refl
-    any-default (x ∷ xs) (suc i) h d e = any-default xs i (le-of-suc-le-suc h) d e
-
     passes-leaves : Passes (leaves b st) 0 es j → Leaves b es set j
     unfolding leaves isReached
     passes-leaves p =

@@ -143,10 +143,10 @@ module _ (z : Size) (es : List Edge) (r : List ℕ) (le : length es ≡ z .edges
       let d : drop k (drop a es) ≡ drop (edgesBelow (suc t) es) es = drop-drop k a es ∙ ap (λ (i : ℕ). drop i es) s in
       rw (at-is t (omega arith), under-is n (suc t) (omega arith), ← d) (take-append-drop k (drop a es))
 
-  pub origin-is : firstOf words 0 ≡ 0
+  origin-is : firstOf words 0 ≡ 0
   origin-is = first-is 0 (omega arith) ∙ below-none 0 es rise (omega arith)
 
-  pub end-is : firstOf words (z .vertices) ≡ z .edges
+  end-is : firstOf words (z .vertices) ≡ z .edges
   end-is = first-is (z .vertices) (omega arith) ∙ below-all es rise ∙ le
 
   pub graph-is : graphOf z words ≡ es

@@ -148,7 +148,7 @@ pub record Loaded (z : Size) (w : List ℕ) : Type 0 where
   pub heads : (t j : ℕ) → j < z .edges → edgeAt z w t j .head < z .vertices
   pub classes : (t j : ℕ) → j < z .edges → edgeAt z w t j .class ≤ maxClass
 
--- and all edges are under one of its vertices
+-- such memory, where each edge is under some vertex
 pub record Whole (z : Size) (w : List ℕ) : Type 0 where
   pub graph : Loaded z w
   pub origin : firstOf w 0 ≡ 0
