@@ -11,13 +11,19 @@ use search::Vertex;
 use workspace::Size;
 use workspace::vertex_words;
 
+// Whether a walk has reached the vertex: it has a cost.
+fn has_cost(x: Vertex) -> bool
+    ensures { λ r. ⌜ r ≡ isReached x ⌝ }
+{
+    x.g < Vertex::UNREACHED
+}
+
 // Whether a walk has reached vertex s.
 pub fn is_reached(work: &[u32], wide: &[u64], z: Size, s: u32) -> bool
     requires { ⌜ Room z (mem (now work) (now wide)) × (s < z .vertices) ⌝ }
     ensures { λ r. ⌜ r ≡ isReached (at (verticesOf z (mem (now (work .entry)) (now (wide .entry)))) s) ⌝ }
 {
-    let x = vertex_words::load(work, wide, z, s);
-    x.g < Vertex::UNREACHED
+    has_cost(vertex_words::load(work, wide, z, s))
 }
 
 // Lists the vertices that are reached, rising; how many they are.
