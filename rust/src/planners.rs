@@ -418,6 +418,32 @@ impl<'a> Comparison<'a> {
     }
 }
 
+/// Lent memory as it was before a call, for planners that spoil it.
+pub struct Before {
+    pub route: Vec<u32>,
+    pub log: Vec<u32>,
+    pub work: Vec<u32>,
+    pub wide: Vec<u64>,
+}
+
+impl Before {
+    pub fn of(memory: &Memory) -> Before {
+        Before {
+            route: memory.route.to_vec(),
+            log: memory.log.to_vec(),
+            work: memory.work.to_vec(),
+            wide: memory.wide.to_vec(),
+        }
+    }
+
+    pub fn restore(&self, memory: &mut Memory) {
+        memory.route.copy_from_slice(&self.route);
+        memory.log.copy_from_slice(&self.log);
+        memory.work.copy_from_slice(&self.work);
+        memory.wide.copy_from_slice(&self.wide);
+    }
+}
+
 #[cfg(test)]
 mod tests {
     use super::*;

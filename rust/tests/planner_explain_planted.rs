@@ -9,7 +9,7 @@ use secondcoop_tests::explainers::{differ, texts_differ, Explainer, Question};
 use secondcoop_tests::explanation::{self, edges_of, Figures, Lists, Reason};
 use secondcoop_tests::jobs;
 use secondcoop_tests::planner::{self, Answer, Memory, Request, Room, NONE};
-use secondcoop_tests::planners::{write_text, Library, SecondPlanner};
+use secondcoop_tests::planners::{write_text, Before, Library, SecondPlanner};
 use secondcoop_tests::reference::{self, Edge};
 
 /// What is wrong with an explanation or with its lines.
@@ -475,32 +475,6 @@ impl Faulty {
             }
             _ => false,
         }
-    }
-}
-
-/// Lent memory as it was before a call.
-struct Before {
-    route: Vec<u32>,
-    log: Vec<u32>,
-    work: Vec<u32>,
-    wide: Vec<u64>,
-}
-
-impl Before {
-    fn of(memory: &Memory) -> Before {
-        Before {
-            route: memory.route.to_vec(),
-            log: memory.log.to_vec(),
-            work: memory.work.to_vec(),
-            wide: memory.wide.to_vec(),
-        }
-    }
-
-    fn restore(&self, memory: &mut Memory) {
-        memory.route.copy_from_slice(&self.route);
-        memory.log.copy_from_slice(&self.log);
-        memory.work.copy_from_slice(&self.work);
-        memory.wide.copy_from_slice(&self.wide);
     }
 }
 

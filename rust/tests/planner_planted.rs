@@ -8,7 +8,9 @@ use secondcoop_tests::jobs::{self, Job};
 use secondcoop_tests::planner::{
     self, Answer, Fault, Figures, Memory, Request, Room, FAULTS, NONE, UNREACHED,
 };
-use secondcoop_tests::planners::{write_text, Comparison, FaultyPlanner, Planner, SecondPlanner};
+use secondcoop_tests::planners::{
+    write_text, Before, Comparison, FaultyPlanner, Planner, SecondPlanner,
+};
 use secondcoop_tests::reference::{self, Refusal};
 use secondcoop_tests::text::TextJob;
 
@@ -427,32 +429,6 @@ impl Faulty {
             }
             _ => answer,
         }
-    }
-}
-
-/// Lent memory as it was before a call.
-struct Before {
-    route: Vec<u32>,
-    log: Vec<u32>,
-    work: Vec<u32>,
-    wide: Vec<u64>,
-}
-
-impl Before {
-    fn of(memory: &Memory) -> Before {
-        Before {
-            route: memory.route.to_vec(),
-            log: memory.log.to_vec(),
-            work: memory.work.to_vec(),
-            wide: memory.wide.to_vec(),
-        }
-    }
-
-    fn restore(&self, memory: &mut Memory) {
-        memory.route.copy_from_slice(&self.route);
-        memory.log.copy_from_slice(&self.log);
-        memory.work.copy_from_slice(&self.work);
-        memory.wide.copy_from_slice(&self.wide);
     }
 }
 
