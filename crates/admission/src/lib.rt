@@ -1,4 +1,6 @@
 // Whether a planner call is admitted: its refusals, decided before anything is written.
+#![tactic(auto)]
+
 pub mod edges;
 mod rows;
 

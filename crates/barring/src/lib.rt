@@ -1,4 +1,6 @@
 // Barred classes: whether a call bars a class of edges.
+#![tactic(auto)]
+
 ghost use Rattle.std.specs.Prelude.{◌≡◌, ◌≤◌};
 ghost use Rattle.graph.specs.Limits.{max_class};
 ghost use Rattle.search.specs.Permitted.{barred_by};

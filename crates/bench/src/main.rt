@@ -1,4 +1,6 @@
 // The bench program: a job on standard input, its text on standard output.
+#![tactic(auto)]
+
 use libc::{STDIN_FILENO, STDOUT_FILENO};
 
 // A job's most bytes, and one more, by which a longer one is known.

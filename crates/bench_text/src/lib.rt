@@ -1,4 +1,6 @@
 // Job bytes to printed text, with a line for every turn or with the reason for "no route", in a lent buffer.
+#![tactic(auto)]
+
 mod explaining;
 mod planning;
 

@@ -1,5 +1,7 @@
 // The reason for "no route": a planner call made once more, and where its answer is no route, the vertices (places)
 // that can be reached, and the barred edges (lanes) that leave them.
+#![tactic(auto)]
+
 mod edges;
 mod lists;
 mod vertices;

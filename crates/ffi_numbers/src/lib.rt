@@ -1,4 +1,6 @@
 // Numbers for programs in C and Rust: answers as four figures, over numbers and lent memory.
+#![tactic(auto)]
+
 ghost use Rattle.std.specs.Prelude.{◌≡◌};
 ghost use Rattle.leb128.specs.Number.{plan_groups, job_groups, read, write_answer, written};
 ghost use Rattle.ffi_numbers.specs.Figures.{read_figures, written_figures};

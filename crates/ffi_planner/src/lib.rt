@@ -1,5 +1,7 @@
 // Planner calls, explanations, the default schedule and the bench text for programs in C and Rust: answers as figures,
 // over numbers and lent memory. The default schedule is called the house schedule there, as users call it.
+#![tactic(auto)]
+
 pub mod explanations;
 
 ghost use Rattle.std.specs.Prelude.{◌≡◌};

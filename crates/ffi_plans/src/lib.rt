@@ -1,4 +1,6 @@
 // Plans for programs in C and Rust: answers as four figures, over numbers and lent memory.
+#![tactic(auto)]
+
 ghost use Rattle.std.specs.Prelude.{◌≡◌};
 ghost use Rattle.graph.specs.Plan.{decode, sizes};
 ghost use Rattle.graph.specs.Lists.{tail_of, head_of, cost_of, class_of, read_answer, list_after};

@@ -1,4 +1,6 @@
 // A binary heap of the vertices that a table is offered, in lent words: where each stands, then the entries, key · 4,096 + vertex.
+#![tactic(auto)]
+
 mod placing;
 mod sift_down;
 mod sift_up;

@@ -1,4 +1,5 @@
 // Jobs of the bench program, as bytes: the values that code and definitions share.
+#![tactic(auto)]
 
 // The offset past some numbers; or one is missing or of bad form.
 #[derive(Drop)]

@@ -1,5 +1,7 @@
 // A bench job read, but for its plan's edges, and refused or accepted: plan length, the plan, start, goal, barred
 // number, allowance, rounds and factors, guide count, anchor table, guide sheets.
+#![tactic(auto)]
+
 mod front;
 mod numbers;
 pub mod storing;

@@ -1,4 +1,6 @@
 // One number read: a plan number, up to four groups; a number of a bench job, up to five.
+#![tactic(auto)]
+
 mod word;
 
 ghost use Rattle.std.specs.Prelude.{ℕ, ◌+◌, ◌≤◌, ◌<◌, ◌≡◌, List, length};

@@ -1,4 +1,6 @@
 // The graph loaded into work memory from the bytes of a plan that was checked.
+#![tactic(auto)]
+
 ghost use Rattle.std.specs.Prelude.{◌≡◌, ◌-◌, ◌<◌, ◌≤◌, length, replicate};
 ghost use Rattle.std.proofs.lemmas.List.Edits.{sets};
 ghost use Rattle.graph.specs.declared.PlanRead.TheVariants.{Sizes};

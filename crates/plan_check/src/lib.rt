@@ -1,4 +1,6 @@
 // A plan checked: V and M at its front, its edges, its end; nothing is written.
+#![tactic(auto)]
+
 pub mod cursor;
 mod number;
 

@@ -1,4 +1,6 @@
 // A plan read into four lent lists: V and M, or the refusal, and then the lists are untouched.
+#![tactic(auto)]
+
 ghost use Rattle.std.specs.Prelude.{◌<◌, ◌≤◌, ◌≡◌, ◌&&◌, map, length, leb};
 ghost use Rattle.graph.specs.declared.PlanRead.TheVariants.{Sizes};
 ghost use Rattle.graph.specs.Plan.{first_at, next_edge, edges_from, sizes};

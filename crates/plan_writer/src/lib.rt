@@ -1,5 +1,7 @@
 // Writing plan bytes from V and four lists: a pass that refuses and measures, then a pass that writes.
 // The cursor is the reader's: the bytes so far, and what the next edge must rise above.
+#![tactic(auto)]
+
 ghost use Rattle.std.specs.Prelude.{◌≡◌, ◌+◌, ◌<◌, ◌≤◌, length, set};
 ghost use Rattle.std.proofs.lemmas.List.Edits.{sets};
 ghost use Rattle.graph.specs.Limits.{max_vertices, max_edges, max_class};

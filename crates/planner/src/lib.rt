@@ -1,4 +1,6 @@
 // The planner call: refused before anything is written, or the rounds over lent memory.
+#![tactic(auto)]
+
 pub mod advance;
 mod answers;
 pub mod begin;

@@ -1,5 +1,7 @@
 // The answer of a planner call, with its route and log, or with the reason for "no route", as printed lines in a lent
 // buffer.
+#![tactic(auto)]
+
 mod buffer;
 mod end_lines;
 mod lines;

@@ -1,4 +1,6 @@
 // The record of the search in hand: each turn, and each round's end, moves it on.
+#![tactic(auto)]
+
 ghost use Rattle.std.specs.Prelude.{◌≡◌, cond, ◌<◌};
 ghost use Rattle.search.specs.Rounds.{first_turn, next_turn, turned, ended};
 ghost use Rattle.progress.specs.Moved.{first_progress, turn_after, counted, moved, max_count};

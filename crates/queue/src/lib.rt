@@ -1,5 +1,7 @@
 // The queues of a search: for each table (heuristic) a heap of the vertices that are offered to it, in lent words; the
 // first of one of them, a vertex stored in all of them, and all of them made anew.
+#![tactic(auto)]
+
 mod building;
 mod keys;
 mod parts;

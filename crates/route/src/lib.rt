@@ -1,4 +1,6 @@
 // The incumbent (the kept route) in route memory: what a finished round does to it, and its length.
+#![tactic(auto)]
+
 mod edges;
 mod laying;
 mod trace;

@@ -1,4 +1,6 @@
 // The schedule that a call takes: which one it is, row 10, and the factors of each round; and the default schedule.
+#![tactic(auto)]
+
 pub mod default_schedule;
 
 ghost use Rattle.std.specs.Prelude.{◌≤◌, ◌<◌, ◌≡◌, length, get_or};

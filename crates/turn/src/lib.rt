@@ -1,4 +1,6 @@
 // Step 1 over the work memories; and one turn: step 3, and the turn with its log word.
+#![tactic(auto)]
+
 mod expansion;
 mod rules;
 mod scan;

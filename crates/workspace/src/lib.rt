@@ -1,4 +1,6 @@
 // Both work memories: where the graph and the vertices lie in them; edges read, vertices read and written there.
+#![tactic(auto)]
+
 pub mod edge_words;
 pub mod round_start;
 pub mod vertex_words;
