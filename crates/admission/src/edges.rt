@@ -9,7 +9,7 @@ use plan_check::cursor;
 
 // What is found: all edges were read, and the number of the first that breaks the rule, M where none does; or the
 // first refusal.
-#[derive(Drop)]
+#[derive(Clone, Copy)]
 pub enum EdgesRead {
     Whole(usize),
     Refused(u32, usize),

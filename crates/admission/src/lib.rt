@@ -11,7 +11,7 @@ use graph::Header;
 
 // What a call asks besides slices: the ends, the barred classes, the number of inadmissible heuristics (guides),
 // and the budget (allowance) of turns.
-#[derive(Drop)]
+#[derive(Clone, Copy)]
 pub struct Query {
     pub start: u32,
     pub goal: u32,
@@ -21,7 +21,7 @@ pub struct Query {
 }
 
 // The lengths of lent memory, as far as a call asks for them.
-#[derive(Drop)]
+#[derive(Clone, Copy)]
 pub struct Lengths {
     pub route: usize,
     pub work: usize,
@@ -30,7 +30,7 @@ pub struct Lengths {
 
 // What is decided of a call: it is admitted, with V and M and the offset of the plan's first edge; or refused,
 // number and position.
-#[derive(Drop)]
+#[derive(Clone, Copy)]
 pub enum Verdict {
     Admitted(u32, u32, usize),
     Refused(u32, usize),

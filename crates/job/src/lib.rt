@@ -2,14 +2,14 @@
 #![tactic(auto)]
 
 // The offset past some numbers; or one is missing or of bad form.
-#[derive(Drop)]
+#[derive(Clone, Copy)]
 pub enum NumbersRead {
     Past(usize),
     Malformed,
 }
 
 // Start and goal, the barred classes, and the budget (allowance).
-#[derive(Drop)]
+#[derive(Clone, Copy)]
 pub struct Ends {
     pub start: u32,
     pub goal: u32,
@@ -19,7 +19,7 @@ pub struct Ends {
 
 // What stands before the tables: the offsets where the plan begins and ends, the ends, the count of rounds, the
 // offset of their factors, the count of guides, and the offset of the tables.
-#[derive(Drop)]
+#[derive(Clone, Copy)]
 pub struct Front {
     pub plan_at: usize,
     pub plan_end: usize,
@@ -31,14 +31,14 @@ pub struct Front {
 }
 
 // What stands before the tables; or refusal 14.
-#[derive(Drop)]
+#[derive(Clone, Copy)]
 pub enum FrontRead {
     Whole(Front),
     Refused,
 }
 
 // A job that may be asked, with V of its plan; or a refusal, number and position.
-#[derive(Drop)]
+#[derive(Clone, Copy)]
 pub enum JobRead {
     Accepted(Front, u32),
     Refused(u32, usize),

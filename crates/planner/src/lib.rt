@@ -15,7 +15,7 @@ use search::{Answer, Progress, Step};
 use workspace::Size;
 
 // Where the search stands between two turns: what step 1 said, and the record of the search in hand.
-#[derive(Drop)]
+#[derive(Clone, Copy)]
 pub struct Standing {
     pub step: Step,
     pub progress: Progress,

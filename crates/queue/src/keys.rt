@@ -12,7 +12,7 @@ use search::Vertex;
 const NO_OPINION: u32 = 4294967295;
 
 // What a table is offered of a vertex: whether it may expand it, and its entry, 0 where it may not.
-#[derive(Drop)]
+#[derive(Clone, Copy)]
 pub struct Offer {
     pub on: bool,
     pub entry: u64,

@@ -17,7 +17,7 @@ use search::{Best, Vertex};
 use workspace::Size;
 
 // The tables, the anchor's and one for each of so many guides, and the factor W1 of all their keys.
-#[derive(Drop)]
+#[derive(Clone, Copy)]
 pub struct Tables {
     pub guides: u32,
     pub w1: u32,

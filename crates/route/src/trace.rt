@@ -9,7 +9,7 @@ use search::RouteCost;
 use workspace::{Size, vertex_words};
 
 // Vertices that a trace has so far: the first of them, their number, and what they are over the edges.
-#[derive(Drop)]
+#[derive(Clone, Copy)]
 pub struct Traced {
     pub first: u32,
     pub length: u32,

@@ -12,7 +12,7 @@ use search::Best;
 use workspace::{Size, vertex_words};
 
 // The best of a scan so far, in two numbers: a key above all keys stands for nobody.
-#[derive(Drop)]
+#[derive(Clone, Copy)]
 struct Lead {
     key: u64,
     vertex: u32,

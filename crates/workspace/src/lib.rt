@@ -7,7 +7,7 @@ pub mod vertex_words;
 mod words;
 
 // The counts of vertices and edges.
-#[derive(Drop)]
+#[derive(Clone, Copy)]
 pub struct Size {
     pub vertices: u32,
     pub edges: u32,
