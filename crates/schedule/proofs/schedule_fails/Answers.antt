@@ -1,5 +1,4 @@
 -- `schedule_fails` meets its contract: no number before i is unfit.
-use Prim.Native.Nat.{◌-◌}
 use mathlib.Core.Path.{sym, ◌∙◌}
 use native.Mathlib.Omega.{arith}
 use Rattle.schedule.proofs.Taken.{fit_first, fit_next, row_empty, row_long, row_odd, row_unfit, row_fit}

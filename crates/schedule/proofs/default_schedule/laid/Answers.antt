@@ -1,5 +1,4 @@
 -- `laid` meets its contract: the sheet's first i numbers are laid.
-use Prim.Native.Nat.{◌-◌}
 use native.Mathlib.Omega.{arith}
 use mathlib.Core.Path.{◌≡◌}
 use lib.ListN.{length}
