@@ -1,11 +1,11 @@
 -- The words of one table: changed, they are what was put there, and those of every other table stay.
-use mathlib.Core.Path.{◌≡◌, refl, sym, ap, ◌∙◌}
+use mathlib.Core.Path.{◌≡◌, sym, ap, ◌∙◌}
 use mathlib.Core.Logic.{◌≢◌}
 use mathlib.Core.List.{List, ◌++◌}
 use Prim.Native.Nat.{ℕ, suc, ◌+◌, ◌-◌, ◌*◌, ◌≤◌, ◌<◌}
 use native.Mathlib.Nat.{mul-le-mul_right}
 use native.Mathlib.Omega.{arith}
-use lib.ListN.{length, get_or, set, take, drop, length-append, length-take, length-drop, get_or-append}
+use lib.ListN.{length, get_or, take, drop, length-append, length-take, length-drop, get_or-append}
 use lib.Seq.{take_at, drop_at, get_or-append-add, get_or-take, get_or-drop, ext_get_or, length-take-le, get_or-set_same, get_or-set_other}
 use Rattle.search.proofs.Tools.{le_cases}
 use Rattle.queue.specs.Parts.{Heaps, part_of, with_part, with_table, Tabled}
