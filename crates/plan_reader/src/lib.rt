@@ -39,10 +39,10 @@ fn store(
     costs: &mut [u32],
     classes: &mut [u32],
 ) -> Cursor
-    requires i_in_bounds { i < length tails.old }
-    requires i_in_bounds_2 { i < length heads.old }
-    requires i_in_bounds_3 { i < length costs.old }
-    requires i_in_bounds_4 { i < length classes.old }
+    requires in_tails { i < length tails.old }
+    requires in_heads { i < length heads.old }
+    requires in_costs { i < length costs.old }
+    requires in_classes { i < length classes.old }
     requires has_next { HasNext vertices bytes.now cursor }
     ensures value { result ≡ cursor_past cursor (next_edge vertices bytes.now cursor) }
     ensures tails_after { tails.new ≡ field_stored_at tail_of i tails.old (next_edge vertices bytes.now cursor) }
@@ -71,11 +71,11 @@ fn fill(
     costs: &mut [u32],
     classes: &mut [u32],
 )
-    requires at_value { sizes (edges_from vertices edges bytes.now (first_at at)) ≡ Sizes vertices edges }
-    requires edges_in_bounds { edges ≤ length tails.old }
-    requires edges_in_bounds_2 { edges ≤ length heads.old }
-    requires edges_in_bounds_3 { edges ≤ length costs.old }
-    requires edges_in_bounds_4 { edges ≤ length classes.old }
+    requires is_checked { sizes (edges_from vertices edges bytes.now (first_at at)) ≡ Sizes vertices edges }
+    requires room_in_tails { edges ≤ length tails.old }
+    requires room_in_heads { edges ≤ length heads.old }
+    requires room_in_costs { edges ≤ length costs.old }
+    requires room_in_classes { edges ≤ length classes.old }
     ensures tails_after { tails.new ≡ over (map tail_of (edges_in (edges_from vertices edges bytes.now (first_at at)))) tails.old }
     ensures heads_after { heads.new ≡ over (map head_of (edges_in (edges_from vertices edges bytes.now (first_at at)))) heads.old }
     ensures costs_after { costs.new ≡ over (map cost_of (edges_in (edges_from vertices edges bytes.now (first_at at)))) costs.old }

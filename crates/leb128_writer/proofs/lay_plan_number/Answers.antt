@@ -20,7 +20,7 @@ unfolding plan_groups
 returns-then-value-lt128 c =
     let x = c.args in
     let e = encode_last 3 x.value c.if-value-lt128.true in
-    (sym (ap (λ (g : List ℕ). x.at + length g) e), sym (ap (sets x.out.now x.at) e))
+    record { value = sym (ap (λ (g : List ℕ). x.at + length g) e); out_after = sym (ap (sets x.out.now x.at) e) }
 
 pub bounds-out-at-2 : goal.bounds-out-at-2
 unfolding plan_groups
@@ -35,7 +35,7 @@ unfolding plan_groups
 returns-then-value-lt16384 c =
     let x = c.args in
     let e = encode_two 2 x.value c.if-value-lt128.false c.if-value-lt16384.true in
-    (sym (ap (λ (g : List ℕ). x.at + length g) e), simp add-one (sym (ap (sets x.out.now x.at) e)))
+    record { value = sym (ap (λ (g : List ℕ). x.at + length g) e); out_after = simp add-one (sym (ap (sets x.out.now x.at) e)) }
 
 pub bounds-out-at-3 : goal.bounds-out-at-3
 unfolding plan_groups
@@ -50,7 +50,7 @@ unfolding plan_groups
 returns-then-value-lt2097152 c =
     let x = c.args in
     let e = encode_three 1 x.value c.if-value-lt16384.false c.if-value-lt2097152.true in
-    (sym (ap (λ (g : List ℕ). x.at + length g) e), simp (add-one, add_two) (sym (ap (sets x.out.now x.at) e)))
+    record { value = sym (ap (λ (g : List ℕ). x.at + length g) e); out_after = simp (add-one, add_two) (sym (ap (sets x.out.now x.at) e)) }
 
 pub bounds-out-at-4 : goal.bounds-out-at-4
 unfolding plan_groups
@@ -69,4 +69,4 @@ unfolding plan_groups
 returns c =
     let x = c.args in
     let e = encode_four 0 x.value c.if-value-lt2097152.false c.requires.0 in
-    (sym (ap (λ (g : List ℕ). x.at + length g) e), simp (add-one, add_two, add_three) (sym (ap (sets x.out.now x.at) e)))
+    record { value = sym (ap (λ (g : List ℕ). x.at + length g) e); out_after = simp (add-one, add_two, add_three) (sym (ap (sets x.out.now x.at) e)) }

@@ -9,15 +9,21 @@ use Rattle.leb128_writer.proofs.write_plan_number.Goals as goal
 
 pub returns-then-value-ge268435456 : goal.returns-then-value-ge268435456
 unfolding plan_groups
-returns-then-value-ge268435456 c = too_large 4 _ _ _ (omega (arith, c.if-value-ge268435456.true))
+returns-then-value-ge268435456 c =
+    let e = too_large 4 _ _ _ (omega (arith, c.if-value-ge268435456.true)) in
+    record { value = e.0; out_after = e.1 }
 
 pub returns-then-out-at : goal.returns-then-out-at
 unfolding plan_groups
-returns-then-out-at c = no_room 4 _ _ _ c.if-value-ge268435456.false (omega (arith, encode_some 4 c.args.value (omega arith)))
+returns-then-out-at c =
+    let e = no_room 4 _ _ _ c.if-value-ge268435456.false (omega (arith, encode_some 4 c.args.value (omega arith))) in
+    record { value = e.0; out_after = e.1 }
 
 pub returns-then-out-at-2 : goal.returns-then-out-at-2
 unfolding plan_groups
-returns-then-out-at-2 c = no_room 4 _ _ _ c.if-value-ge268435456.false (omega (arith, c.plan_number_len.ensures))
+returns-then-out-at-2 c =
+    let e = no_room 4 _ _ _ c.if-value-ge268435456.false (omega (arith, c.plan_number_len.ensures)) in
+    record { value = e.0; out_after = e.1 }
 
 pub lay_plan_number-requires : goal.lay_plan_number-requires
 unfolding plan_groups
@@ -29,4 +35,4 @@ returns c =
     let x = c.args in
     let l = c.lay_plan_number.ensures in
     let r = room 4 x.out.now x.at x.value (encode 4 x.value) refl c.if-value-ge268435456.false (omega (arith, c.plan_number_len.ensures)) in
-    (ap Next l.0 ∙ r.0, l.1 ∙ r.1)
+    record { value = ap Next l.value ∙ r.0; out_after = l.out_after ∙ r.1 }

@@ -1,5 +1,4 @@
 -- `tail` meets its contract. The loop's invariant: the tail sought is t or later.
-use Prim.Native.Nat.{◌-◌}
 use native.Mathlib.Omega.{arith}
 use Rattle.workspace.proofs.Numbered.{some_vertex, sought_first, sought_inside, sought_next}
 use Rattle.workspace.proofs.edge_words.tail.Goals as goal

@@ -1,9 +1,7 @@
 -- `at_first` meets its contract.
-use Prim.Native.Nat.{◌-◌}
 use mathlib.Core.Path.{◌≡◌, refl, ◌∙◌}
 use native.Mathlib.Omega.{arith}
-use Rattle.search.specs.Job.{fresh}
-use Rattle.workspace.specs.Layout.{mem, written}
+use Rattle.workspace.specs.Layout.{mem}
 use Rattle.workspace.proofs.Written.{written_none}
 use Rattle.workspace.proofs.RoundStart.{fresh_more, fresh_all}
 use Rattle.std.proofs.Common.{rules}
@@ -22,8 +20,8 @@ pub loop-p-preserved : goal.loop-p-preserved
 loop-p-preserved c =
     let l = c.loop-p in (
       search rules,
-      c.put.auto.0 ∙ l.invariant.1,
-      c.put.auto.1.0 ∙ l.invariant.2,
+      c.put.auto.work ∙ l.invariant.1,
+      c.put.auto.wide ∙ l.invariant.2,
       fresh_more c.args.z (mem c.args.work.now c.args.wide.now) (mem l.work l.wide) _ l.p c.requires.0 l.invariant.3 c.loop-p-test.true
           (rw c.fresh.ensures at c.put.ensures),
     )
@@ -35,10 +33,10 @@ put-requires-2 c =
     (record { work = omega (arith, i.1, r.work); wide = omega (arith, i.2, r.wide) }, omega (arith, c.requires.1))
 
 pub shape_of-work : goal.shape_of-work
-shape_of-work c = c.put-2.auto.0 ∙ c.loop-p.invariant.1
+shape_of-work c = c.put-2.auto.work ∙ c.loop-p.invariant.1
 
 pub shape_of-wide : goal.shape_of-wide
-shape_of-wide c = c.put-2.auto.1.0 ∙ c.loop-p.invariant.2
+shape_of-wide c = c.put-2.auto.wide ∙ c.loop-p.invariant.2
 
 pub returns : goal.returns
 returns c =

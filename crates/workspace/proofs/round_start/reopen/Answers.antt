@@ -1,5 +1,4 @@
 -- `reopen` meets its contract.
-use Prim.Native.Nat.{◌-◌}
 use Rattle.workspace.specs.Layout.{mem}
 use Rattle.workspace.proofs.Written.{ready_kept, length_kept, wide_kept}
 use Rattle.workspace.proofs.RoundStart.{reopening_none, reopening_more, reopening_all}
