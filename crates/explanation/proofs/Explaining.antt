@@ -16,7 +16,7 @@ use Rattle.search.specs.declared.Vertex.{Vertex}
 use Rattle.search.specs.declared.Answer.{Answer}
 use Rattle.search.specs.declared.Answer.TheVariants.{Refused}
 use Rattle.search.specs.declared.Explanation.{Explanation}
-use Rattle.search.specs.Call.{Memory, Call, first, fault_in, fault_of, plan_edges, job_in, job_from, job_of}
+use Rattle.search.specs.Call.{Memory, Call, fault_in, fault_of, plan_edges, job_in, job_from, job_of}
 use Rattle.search.specs.Admitted.{Admitted}
 use Rattle.search.specs.Outcome.{work_words, wide_words, no_route, figures, answer_in, answer, memory_in, memory_after}
 use Rattle.search.proofs.Admitted.{exact, plan_edges_lem}

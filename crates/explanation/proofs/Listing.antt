@@ -11,7 +11,6 @@ use lib.Seq.{take-suc, take_all, length-take-le}
 use Rattle.text.specs.Laid.{laid, Put}
 use Rattle.text.proofs.Laid.{put_nil, then_put, put_length}
 use Rattle.graph.specs.declared.Edge.{Edge}
-use Rattle.graph.proofs.Tests.{not_true, not_false}
 use Rattle.search.specs.declared.Vertex.{Vertex}
 use Rattle.search.specs.Job.{fresh, at}
 use Rattle.search.specs.Permitted.{barred_by}
@@ -80,20 +79,20 @@ module _ (b : ℕ) (st : List Vertex) (e given : Edge) (q : given ≡ e) (x : Bo
   class_of : x ≡ barred_by b e.class
   class_of = rw q at barred
 
-  pub not_barred : not x ≡ true → false ≡ leaves b st e
+  pub not_barred : x ≡ false → false ≡ leaves b st e
   unfolding leaves
-  not_barred h = rw (← class_of, not_true x h)
+  not_barred h = rw (← class_of, h)
 
-  module _ (more : not x ≡ false) (y : Bool) (tail : y ≡ is_reached (at st e.tail)) where
-    pub not_from : not y ≡ true → false ≡ leaves b st e
+  module _ (more : x ≡ true) (y : Bool) (tail : y ≡ is_reached (at st e.tail)) where
+    pub not_from : y ≡ false → false ≡ leaves b st e
     unfolding leaves
-    not_from h = rw (← class_of, not_false x more, ← tail, not_true y h)
+    not_from h = rw (← class_of, more, ← tail, h)
 
-    pub from_there : not y ≡ false → (w : Bool) → w ≡ is_reached (at st given.head) → not w ≡ leaves b st e
+    pub from_there : y ≡ true → (w : Bool) → w ≡ is_reached (at st given.head) → not w ≡ leaves b st e
     unfolding leaves
     from_there h w head =
         let k : w ≡ is_reached (at st e.head) = rw q at head in
-        rw (← class_of, not_false x more, ← tail, not_false y h, ← k)
+        rw (← class_of, more, ← tail, h, ← k)
 
 -- ---- the edges of a tail
 

@@ -4,7 +4,7 @@ use mathlib.Core.Path.{◌≡◌, refl, sym, ap, ◌∙◌, subst}
 use mathlib.Core.List.{List, []}
 use lib.ListN.{length}
 use lib.Seq.{take-nil}
-use Rattle.graph.specs.Lists.{none, fault, over}
+use Rattle.graph.specs.Lists.{fault, over}
 use Rattle.search.specs.declared.Progress.{Progress}
 use Rattle.search.specs.declared.Answer.{Answer}
 use Rattle.search.specs.declared.Answer.TheVariants as answers
