@@ -1,7 +1,11 @@
 // The bench program: a job on standard input, its text on standard output.
 #![tactic(auto)]
 
-use libc::{STDIN_FILENO, STDOUT_FILENO};
+ghost use Rattle.std.specs.Prelude.{◌<◌, ◌≤◌, length, take, IfOk};
+ghost use Rattle.std.specs.Io.KnownBytes.{Consumes, IsAtEnd};
+
+use std::io;
+use std::io::{Read, Write};
 
 // A job's most bytes, and one more, by which a longer one is known.
 const JOB: usize = 32769;
@@ -9,10 +13,28 @@ const JOB: usize = 32769;
 // No text is longer (`max_text`).
 const TEXT: usize = 289654;
 
-fn main() {
+// Reads until the buffer is full or the input ends. How many bytes now stand at the buffer's front: those that the
+// input has lost, and all that it had where they are fewer than there is room for.
+fn read_full<R: Read>(input: &mut R, buf: &mut [u8]) -> io::Result<usize>
+    ensures within { IfOk result (λ n. n ≤ length buf.new) }
+    ensures bytes { IfOk result (λ n. Consumes (R.remaining input.old) (R.remaining input.new) (take n buf.new)) }
+    ensures end { IfOk result (λ n. n < length buf.new → IsAtEnd (R.remaining input.new)) }
+{
+    let mut size = 0;
+    while size < buf.len() {
+        let more = input.read(&mut buf[size..])?;
+        if more == 0 {
+            break;
+        }
+        size += more;
+    }
+    Ok(size)
+}
+
+fn main(rt: HostRuntime) -> io::Result<()> {
     let mut job = [0u8; JOB];
-    let size = io::read_full(STDIN_FILENO, &mut job);
+    let size = read_full(&mut rt.stdin(), &mut job)?;
     let mut text = [0u8; TEXT];
     let length = bench_text::bench_text(&job[..size], &mut text);
-    io::write_all(STDOUT_FILENO, &text[..length]);
+    io::writer(&rt).write_all(&text[..length])
 }

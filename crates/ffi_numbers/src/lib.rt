@@ -1,4 +1,4 @@
-// Numbers for programs in C and Rust: answers as four figures, over numbers and lent memory.
+// Numbers for programs in C and Rust: answers as four figures, over numbers and lent memory. `ffi_numbers_c` exports these functions.
 #![tactic(auto)]
 
 ghost use Rattle.std.specs.Prelude.{◌≡◌};
@@ -29,29 +29,21 @@ fn of_written(written: NumberWritten) -> [u64; 4]
 }
 
 // The plan number at an offset.
-#[unsafe(no_mangle)]
-pub extern "C" fn secondcoop_read_plan_number(bytes: &[u8], at: usize, figures: &mut [u64; 4])
+pub fn secondcoop_read_plan_number(bytes: &[u8], at: usize, figures: &mut [u64; 4])
     ensures { figures.new ≡ read_figures (read plan_groups bytes.now at) }
 {
     *figures = of_read(leb128_reader::read_plan_number(bytes, at));
 }
 
 // The number of a bench job at an offset.
-#[unsafe(no_mangle)]
-pub extern "C" fn secondcoop_read_job_number(bytes: &[u8], at: usize, figures: &mut [u64; 4])
+pub fn secondcoop_read_job_number(bytes: &[u8], at: usize, figures: &mut [u64; 4])
     ensures { figures.new ≡ read_figures (read job_groups bytes.now at) }
 {
     *figures = of_read(leb128_reader::read_job_number(bytes, at));
 }
 
 // A plan number written at an offset.
-#[unsafe(no_mangle)]
-pub extern "C" fn secondcoop_write_plan_number(
-    out: &mut [u8],
-    at: usize,
-    value: u32,
-    figures: &mut [u64; 4],
-)
+pub fn secondcoop_write_plan_number(out: &mut [u8], at: usize, value: u32, figures: &mut [u64; 4])
     ensures figures_after { figures.new ≡ written_figures (write_answer plan_groups out.old at value) }
     ensures out_after { out.new ≡ written plan_groups out.old at value }
 {

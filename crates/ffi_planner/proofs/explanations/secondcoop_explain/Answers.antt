@@ -1,0 +1,6 @@
+-- `secondcoop_explain` meets its contract: the explanation's own.
+use Rattle.ffi_planner.proofs.Handing.{exported_reason}
+use Rattle.ffi_planner.proofs.explanations.secondcoop_explain.Goals as goal
+
+pub returns : goal.returns
+returns c = exported_reason _ _ _ _ _ _ c.of_explanation.ensures c.explain-explanation.ensures
