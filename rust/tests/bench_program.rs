@@ -14,13 +14,16 @@ fn root() -> PathBuf {
 
 /// What the bench program prints for the job in a file.
 fn program_text(job: &Path) -> String {
-    let program = root().join("target/bin/bench");
+    let program = root().join("crates/bench/out/bench");
     let input = File::open(job).expect("a job is read");
     let output = Command::new(&program)
         .stdin(input)
         .output()
         .unwrap_or_else(|error| {
-            panic!("`rt check bench` makes {}: {error}", program.display());
+            panic!(
+                "`rt run` in crates/bench makes {}: {error}",
+                program.display()
+            );
         });
     assert!(output.status.success(), "{}", job.display());
     String::from_utf8(output.stdout).expect("a printed text has plain letters")

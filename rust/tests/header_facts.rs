@@ -355,12 +355,12 @@ fn the_bytes_of_a_text_are_the_proved_ones() {
     // A word for each turn: 2·V in each of 16 rounds.
     let log = 2 * MOST_BENCH_VERTICES * 16;
     let spec = read("crates/job/specs/Texts.antt");
-    assert!(spec.contains("maxEnd = 6 + routeSize * 11 + 112\n"));
-    assert!(spec.contains("maxText = logSize * 35 + maxEnd\n"));
-    assert!(spec.contains("few : r ≤ maxText\n"));
+    assert!(spec.contains("max_end = 6 + route_size * 11 + 112\n"));
+    assert!(spec.contains("max_text = log_size * 35 + max_end\n"));
+    assert!(spec.contains("few : r ≤ max_text\n"));
     let sizes = read("crates/job/specs/Asked.antt");
-    assert!(sizes.contains(&format!("logSize = {log}\n")));
-    assert!(sizes.contains("routeSize = maxJobVertices\n"));
+    assert!(sizes.contains(&format!("log_size = {log}\n")));
+    assert!(sizes.contains("route_size = max_job_vertices\n"));
     assert_eq!(log * 35 + (6 + MOST_BENCH_VERTICES * 11) + 112, longest);
     let program = read("crates/bench/src/main.rt");
     assert!(program.contains(&format!("const TEXT: usize = {longest};\n")));

@@ -9,7 +9,7 @@ use std::process::Command;
 
 /// The crates that export functions, and their built libraries.
 const EXPORTS: [(&str, &str); 3] = [
-    ("ffi_numbers", env!("SECONDCOOP_NUMBERS_ARCHIVE")),
+    ("ffi_numbers_c", env!("SECONDCOOP_NUMBERS_ARCHIVE")),
     ("ffi_plans", env!("SECONDCOOP_PLANS_ARCHIVE")),
     ("ffi_planner", env!("SECONDCOOP_PLANNER_ARCHIVE")),
 ];
@@ -136,7 +136,7 @@ fn parameters_are_as_c_has_them() {
 fn exported(source: &str) -> Functions {
     let source = without(source, "//", "\n");
     let mut functions = Functions::new();
-    for text in source.split("#[no_mangle]").skip(1) {
+    for text in source.split("#[unsafe(no_mangle)]").skip(1) {
         let text = text.trim_start().strip_prefix("pub extern \"C\" fn ");
         let (name, text) = text
             .and_then(|text| text.split_once('('))
@@ -409,7 +409,7 @@ fn a_change_in_the_exports_is_found() {
         ("work: &mut [u32]", "work: &mut [u64]"),
         ("wide: &mut [u64]", "wide: &mut [u32]"),
         ("-> usize", "-> u32"),
-        ("#[no_mangle]", ""),
+        ("#[unsafe(no_mangle)]", ""),
     ];
     all_found(exported, &source, &changes);
 }
@@ -440,7 +440,7 @@ fn figures_are_as_many_as_the_header_says() {
         number.expect("a macro").to_string()
     };
     for (name, counts) in [
-        ("ffi_numbers", &[("SECONDCOOP_FIGURES", 3)][..]),
+        ("ffi_numbers_c", &[("SECONDCOOP_FIGURES", 3)][..]),
         ("ffi_plans", &[("SECONDCOOP_FIGURES", 3)]),
         (
             "ffi_planner",
