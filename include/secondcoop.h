@@ -42,7 +42,7 @@
  *   secondcoop_load_house SECONDCOOP_HOUSE_STACK, secondcoop_plan and
  *   secondcoop_explain SECONDCOOP_PLAN_STACK, secondcoop_bench_text and
  *   secondcoop_explain_text SECONDCOOP_TEXT_STACK.
- * - `rt staticlib NAME` makes target/staticlib/libNAME.a: ffi_numbers has the
+ * - `tools/archives` makes target/staticlib/libNAME.a: ffi_numbers has the
  *   functions on numbers, ffi_plans those on plans, ffi_planner those on
  *   houses, planner calls, explanations and bench jobs. A program links those
  *   that it calls.
