@@ -22,6 +22,6 @@ loop-size-preserved g c =
       within = search rules;
       room = search rules;
       taken =
-          subst (Consumes _ _) (sym (front_more _ _ _ _ _ i.within c.in_ok-more.ensures.bound.0))
-          (Consumes-trans _ _ _ _ _ i.taken c.in_ok-more.ensures.bytes.0);
+          subst (Consumes _ _) (sym (front_more _ _ _ _ _ i.within c.in-Ok.ensures.bound.0))
+          (Consumes-trans _ _ _ _ _ i.taken c.in-Ok.ensures.bytes.0);
     }
