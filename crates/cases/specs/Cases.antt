@@ -17,7 +17,7 @@ pub record HandsOver (c : Call) (f : Figures) (m : Memory) : Type 0 where
   pub says : figures (answer c) ≡ f
   pub leaves : memory_after c ≡ m
 
--- a route: kept cost, its number of vertices, finished rounds, turns, W1-as-W2 of the last finished round
+-- a route: kept cost, its number of vertices, finished rounds, turns, W1·W2 of the last finished round
 abbrev pub routed : ℕ → ℕ → ℕ → ℕ → ℕ → Figures
 routed cost vertices rounds turns bound =
     record { ending = route; number = 0; position = 0; cost = cost; length = vertices; rounds = rounds; turns = turns; bound = bound }
