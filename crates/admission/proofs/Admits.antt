@@ -4,36 +4,38 @@ use native.Mathlib.Omega.{arith}
 use mathlib.Core.Path.{◌≡◌, refl, sym, ap, ◌∙◌, subst}
 use mathlib.Core.List.{List}
 use lib.ListN.{length}
+use Rattle.graph.specs.declared.refusal.Refusal.{Refusal}
 use Rattle.graph.specs.declared.Edge.{Edge}
-use Rattle.graph.specs.declared.Header.{Header}
-use Rattle.graph.specs.declared.Header.TheVariants as header_read
-use Rattle.graph.specs.declared.Header.TheVariants.{Counts}
+use Rattle.std.specs.Prelude.{Ok, Err}
+use Rattle.graph.specs.Refusal.{Header, refusal_of, size_of}
 use Rattle.graph.specs.Plan.{Decoded, accepted, refused, first_at, header, after_header, decode}
 use Rattle.graph.specs.Lists.{Fault, none, fault, edges_in}
 use Rattle.graph.proofs.Plan as laws
-use Rattle.graph.proofs.Plan.{accepted≢refused}
-use Rattle.search.specs.Call.{Call, fault_in, fault_of, plan_edges, job_in, job_from, job_of}
+use Rattle.graph.proofs.Plan.{accepted≢refused, header_parts}
+use Rattle.leb128.proofs.Result.{err≢ok}
+use Rattle.search.specs.Call.{Memory, Call, schedule_of, fault_in, fault_of, plan_edges, job_in, job_from, job_of}
 use Rattle.search.specs.Admitted.{Admissible}
 use Rattle.search.proofs.Admitted.{clear}
-use Rattle.admission.specs.declared.Verdict.TheVariants.{Admitted, Refused}
-use Rattle.admission.specs.Verdict.{verdict}
-use Rattle.admission.specs.Admission.{first_edge_at, verdict_of}
+use Rattle.admission.specs.declared.Call.{Call as Asked}
+use Rattle.admission.specs.declared.Lengths.{Lengths}
+use Rattle.admission.specs.Verdict.{Verdict, verdict}
+use Rattle.admission.specs.Admission.{first_edge_at, verdict_of, call_with, Decided}
 
 -- the header of a plan that is accepted
 pub accepted_header :
-    (s : List ℕ) (v : ℕ) (es : List Edge) → decode s ≡ accepted v es → header s ≡ Counts v (length es) (first_edge_at (header s))
+    (s : List ℕ) (v : ℕ) (es : List Edge) → decode s ≡ accepted v es → header s ≡ Ok (size_of v (length es), first_edge_at (header s))
 unfolding decode after_header first_edge_at
 accepted_header s v es d = by (header s) refl
   where
-    by : (h : Header) → header s ≡ h → h ≡ Counts v (length es) (first_edge_at h)
-    by (Counts w m at) e =
-        let a = laws.accepts w s m (first_at at) v es (sym (ap (after_header s) e) ∙ d) in
+    by : (h : Header) → header s ≡ h → h ≡ Ok (size_of v (length es), first_edge_at h)
+    by (Ok (z, at)) e =
+        let a = laws.accepts z.vertices s z.edges (first_at at) v es (sym (ap (after_header s) e) ∙ d) in
         rw (a.same, a.count)
-    by (header_read.Refused n p) e = absurd (accepted≢refused (sym (ap (after_header s) e) ∙ d))
+    by (Err r) e = absurd (accepted≢refused (sym (ap (after_header s) e) ∙ d))
 
 -- the call has no fault: its plan is accepted, with V vertices and M edges, the first at this offset, and no row holds
 pub record Admits (c : Call) (v m at : ℕ) : Type 0 where
-  pub header_is : header c.bytes ≡ Counts v m at
+  pub header_is : header c.bytes ≡ Ok (size_of v m, at)
   pub edges : List Edge
   pub plan : decode c.bytes ≡ accepted v edges
   pub count : length edges ≡ m
@@ -41,18 +43,16 @@ pub record Admits (c : Call) (v m at : ℕ) : Type 0 where
   pub none : fault_of c ≡ none
   pub clear : Admissible c v edges
 
-admitted≢refused : {v m at n p : ℕ} → Refused n p ≡ Admitted v m at → ⊥
-admitted≢refused h = let z : ◌≡◌ {A = ℕ} 0 1 = cc in omega arith
-
 module _ (c : Call) (v m at : ℕ) where
   admits_by :
       (d : Decoded) → decode c.bytes ≡ d → (f : Fault) → fault_in c d ≡ f →
-      verdict (job_from c d).size (length (edges_in d)) (first_edge_at (header c.bytes)) f ≡ Admitted v m at → Admits c v m at
+      verdict (job_from c d).size (length (edges_in d)) (first_edge_at (header c.bytes)) f ≡ Ok (size_of v m, at) → Admits c v m at
   unfolding verdict job_of job_from job_in edges_in fault_of fault_in
   admits_by (accepted w es) e none k h =
-      let a : w ≡ v = cc in
-      let b : length es ≡ m = cc in
-      let o : first_edge_at (header c.bytes) ≡ at = cc in
+      let i = header_parts h in
+      let a : w ≡ v = i.0 in
+      let b : length es ≡ m = i.1 in
+      let o : first_edge_at (header c.bytes) ≡ at = i.2 in
       subst (λ (x : ℕ). Admits c x m at) a
       (record {
         header_is = rw (b, o) at (accepted_header c.bytes w es e);
@@ -63,22 +63,40 @@ module _ (c : Call) (v m at : ℕ) where
         none = rw e k;
         clear = clear c w es k;
       })
-  admits_by (accepted w es) e (fault n p) k h = absurd (admitted≢refused h)
+  admits_by (accepted w es) e (fault n p) k h = absurd (err≢ok h)
   admits_by (refused n p) e none k h = absurd (let z : ◌≡◌ {A = ℕ} 0 1 = cc in omega arith)
-  admits_by (refused n p) e (fault i q) k h = absurd (admitted≢refused h)
+  admits_by (refused n p) e (fault i q) k h = absurd (err≢ok h)
 
-  pub admits : verdict_of c ≡ Admitted v m at → Admits c v m at
+  pub admits : verdict_of c ≡ Ok (size_of v m, at) → Admits c v m at
   unfolding verdict_of plan_edges fault_of job_of
   admits h = admits_by (decode c.bytes) refl (fault_in c (decode c.bytes)) refl h
 
-refused_by : (w k at n p : ℕ) (f : Fault) → verdict w k at f ≡ Refused n p → f ≡ fault n p
+refused_by : (w k at : ℕ) (r : Refusal) (f : Fault) → verdict w k at f ≡ Err r → f ≡ fault r.cause r.at
 unfolding verdict
-refused_by w k at n p none h = absurd (let z : ◌≡◌ {A = ℕ} 0 1 = cc in omega arith)
-refused_by w k at n p (fault i q) h =
-    let a : i ≡ n = cc in
-    let b : q ≡ p = cc in
-    rw (a, b)
+refused_by w k at r none h = absurd (err≢ok (sym h))
+refused_by w k at r (fault n p) h = let z : refusal_of n p ≡ r = cc in ap (λ (e : Refusal). fault e.cause e.at) z
 
-pub refuses : (c : Call) (n p : ℕ) → verdict_of c ≡ Refused n p → fault_of c ≡ fault n p
+pub refuses : (c : Call) (r : Refusal) → verdict_of c ≡ Err r → fault_of c ≡ fault r.cause r.at
 unfolding verdict_of
-refuses c n p h = refused_by (job_of c).size (length (plan_edges c)) (first_edge_at (header c.bytes)) n p (fault_of c) h
+refuses c r h = refused_by (job_of c).size (length (plan_edges c)) (first_edge_at (header c.bytes)) r (fault_of c) h
+
+-- what is decided of a call is the verdict on it with any memory of these lengths
+pub decided_with :
+    (q : Asked) (lengths : Lengths) (r : Verdict) (m : Memory) → Decided q lengths r →
+    length m.route ≡ lengths.route → length m.work ≡ lengths.work → length m.wide ≡ lengths.wide → r ≡ verdict_of (call_with q m)
+unfolding schedule_of
+decided_with q lengths r m d e f g =
+    d.decided (call_with q m)
+    (record {
+      bytes_is = refl;
+      start_is = refl;
+      goal_is = refl;
+      barred_is = refl;
+      anchor_is = refl;
+      sheets_is = refl;
+      count_is = refl;
+      schedule_is = refl;
+      route_is = e;
+      work_is = f;
+      wide_is = g;
+    })

@@ -4,15 +4,26 @@ ghost use Rattle.std.specs.Prelude.{◌≡◌, get_or};
 ghost use Rattle.graph.specs.Plan.{first_at, edges_from};
 ghost use Rattle.admission.specs.Broken as rule;
 
-use graph::{Edge, EdgeRead};
-use plan_check::cursor;
+use graph::refusal::Refusal;
+use graph::{Edge, Size};
+use plan_check::watch::Watch;
 
-// What is found: all edges were read, and the number of the first that breaks the rule, M where none does; or the
-// first refusal.
+// The watch for the rule: the number of the first edge that breaks it, M where none does yet.
 #[derive(Clone, Copy)]
-pub enum EdgesRead {
-    Whole(usize),
-    Refused(u32, usize),
+struct FirstBroken<'a> {
+    anchor: &'a [u32],
+    broken: usize,
+}
+
+impl<'a> Watch for FirstBroken<'a> {
+    ghost seen = { rule.seen };
+
+    #[tactic(auto, unfolding(crate::specs::Broken::seen))]
+    fn see(self, i: usize, edge: Edge) -> FirstBroken<'a> {
+        let FirstBroken { anchor, broken } = self;
+        let broken = first_broken(broken, i, edge, anchor);
+        FirstBroken { anchor, broken }
+    }
 }
 
 // The anchor heuristic at a vertex, 0 past the table's end.
@@ -24,14 +35,16 @@ fn anchor_at(anchor: &[u32], vertex: u32) -> u32
 }
 
 // Whether an edge breaks the rule; the sum may pass 32 bits.
+#[tactic(auto, unfolding(crate::specs::Broken::breaks))]
 fn breaks(edge: Edge, anchor: &[u32]) -> bool
     ensures { result ≡ rule.breaks anchor.now edge }
 {
-    let through = edge.cost as u64 + anchor_at(anchor, edge.head) as u64;
-    through < anchor_at(anchor, edge.tail) as u64
+    let through = u64::from(edge.cost) + u64::from(anchor_at(anchor, edge.head));
+    through < u64::from(anchor_at(anchor, edge.tail))
 }
 
 // The first edge that breaks the rule up to edge i, where `broken` is the first before it, or M.
+#[tactic(auto, unfolding(crate::specs::Broken::broken_after))]
 fn first_broken(broken: usize, i: usize, edge: Edge, anchor: &[u32]) -> usize
     ensures { result ≡ rule.broken_after anchor.now broken i edge }
 {
@@ -41,30 +54,13 @@ fn first_broken(broken: usize, i: usize, edge: Edge, anchor: &[u32]) -> usize
     if i < broken { i } else { broken }
 }
 
-// All edges after a header, and the plan's end, under an anchor table of any length.
-pub fn read_edges(bytes: &[u8], vertices: u32, edges: u32, at: usize, anchor: &[u32]) -> EdgesRead
-    ensures { result ≡ rule.edges_read anchor.now (edges_from vertices edges bytes.now (first_at at)) }
+// All edges after a header, and the plan's end, under an anchor table of any length: the first edge that breaks the
+// rule, M where none does.
+#[tactic(auto, using(crate::proofs::AnchorRule::rule_read, crate::proofs::AnchorRule::rule_refused))]
+pub fn read_edges(bytes: &[u8], size: Size, at: usize, anchor: &[u32]) -> Result<usize, Refusal>
+    ensures { result ≡ rule.edges_read anchor.now (edges_from size.vertices size.edges bytes.now (first_at at)) }
 {
-    let count = edges as usize;
-    let mut cursor = cursor::first(at);
-    let mut broken = count;
-    let mut i = 0;
-    while i < count {
-        match cursor::next_edge(cursor, bytes, vertices) {
-            EdgeRead::Next(edge, next) => {
-                broken = first_broken(broken, i, edge, anchor);
-                cursor = next;
-            }
-            EdgeRead::Refused(n, p) => {
-                return EdgesRead::Refused(n, p);
-            }
-        }
-        i += 1;
-    }
-    let end = cursor.at;
-    if end < bytes.len() {
-        EdgesRead::Refused(7, end)
-    } else {
-        EdgesRead::Whole(broken)
-    }
+    let broken = size.edges as usize;
+    let found = plan_check::read_edges(bytes, size, at, FirstBroken { anchor, broken })?;
+    Ok(found.broken)
 }

@@ -4,20 +4,36 @@
 pub mod edges;
 mod rows;
 
+ghost use Rattle.std.specs.Prelude.{◌≡◌};
+ghost use Rattle.search.specs.Call.{or_default};
 ghost use Rattle.admission.specs.Admission.{Decided};
 
-use edges::EdgesRead;
-use graph::Header;
+use graph::Size;
+use graph::refusal::Refusal;
 
-// What a call asks besides slices: the ends, the barred classes, the number of inadmissible heuristics (guides),
-// and the budget (allowance) of turns.
+// A planner call, but for the memory that is lent to it. The inadmissible heuristics (guides) stand one after another;
+// the schedule is the call's own, empty for the default schedule (house schedule).
 #[derive(Clone, Copy)]
-pub struct Query {
+pub struct Call<'a> {
+    pub bytes: &'a [u8],
     pub start: u32,
     pub goal: u32,
     pub barred: u32,
-    pub guides: u32,
+    pub anchor: &'a [u32],
+    pub guides: &'a [u32],
+    pub guide_count: u32,
+    pub schedule: &'a [u32],
+    pub default_schedule: &'a [u32],
     pub budget: u32,
+}
+
+impl<'a> Call<'a> {
+    // The schedule that the call takes.
+    pub fn taken(&self) -> &'a [u32]
+        ensures { result.now ≡ or_default self.now.default_schedule.now self.now.schedule.now }
+    {
+        schedule::or_default(self.schedule, self.default_schedule)
+    }
 }
 
 // The lengths of lent memory, as far as a call asks for them.
@@ -28,35 +44,12 @@ pub struct Lengths {
     pub wide: usize,
 }
 
-// What is decided of a call: it is admitted, with V and M and the offset of the plan's first edge; or refused,
-// number and position.
-#[derive(Clone, Copy)]
-pub enum Verdict {
-    Admitted(u32, u32, usize),
-    Refused(u32, usize),
-}
-
 // The verdict on a planner call: refused for its first fault, those of the plan (1 to 7, 15) before the rows 8
-// to 13; or admitted. The schedule is the one that the call takes.
-pub fn decide(
-    bytes: &[u8],
-    q: Query,
-    anchor: &[u32],
-    guides: &[u32],
-    schedule: &[u32],
-    lengths: Lengths,
-) -> Verdict
-    ensures { Decided bytes.now q anchor.now guides.now schedule.now lengths result }
+// to 13; or admitted, with V and M and the offset of the plan's first edge.
+pub fn decide(call: &Call<'_>, lengths: Lengths) -> Result<(Size, usize), Refusal>
+    ensures { Decided call.now lengths result }
 {
-    match plan_check::header(bytes) {
-        Header::Refused(n, p) => Verdict::Refused(n, p),
-        Header::Counts(vertices, edges, at) => {
-            match edges::read_edges(bytes, vertices, edges, at, anchor) {
-                EdgesRead::Refused(n, p) => Verdict::Refused(n, p),
-                EdgesRead::Whole(broken) => rows::call_verdict(
-                    bytes, vertices, edges, at, q, anchor, guides, schedule, lengths, broken,
-                ),
-            }
-        }
-    }
+    let (size, at) = plan_check::header(call.bytes)?;
+    let broken = edges::read_edges(call.bytes, size, at, call.anchor)?;
+    rows::call_verdict(call, size, at, lengths, broken)
 }

@@ -15,6 +15,7 @@ const TEXT: usize = 289654;
 
 // Reads until the buffer is full or the input ends; a read that fails counts as the end. How many bytes now stand at the
 // buffer's front: those that the input has lost, and all that it had where no read failed and there is room for more.
+// A `while`, no count by hand: how far a read comes is the input's own word.
 fn read_full<R: Read>(input: &mut R, buf: &mut [u8]) -> Result<usize, usize>
     ensures within { MatchResult result (λ n. n ≤ length buf.new) (λ n. n ≤ length buf.new) }
     ensures bytes { MatchResult result (λ n. Consumes (R.remaining input.old) (R.remaining input.new) (take n buf.new)) (λ n. Consumes (R.remaining input.old) (R.remaining input.new) (take n buf.new)) }

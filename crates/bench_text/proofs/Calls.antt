@@ -11,10 +11,11 @@ use Rattle.search.specs.Job.{standard}
 use Rattle.search.specs.Call.{Call}
 use Rattle.search.specs.Outcome.{figures, answer, memory_after}
 use Rattle.job.specs.declared.Front.{Front}
-use Rattle.job.specs.declared.JobRead.TheVariants.{Accepted}
+use Rattle.std.specs.Prelude.{Result, Ok}
+use Rattle.graph.specs.declared.refusal.Refusal.{Refusal}
 use Rattle.job.specs.Reading.{job_read, plan_of, table_count}
 use Rattle.job.specs.Numbers.{values}
-use Rattle.job.specs.Asked.{factors_of, tables_of, anchor_of, sheets_of, call_with, call_asked}
+use Rattle.job.specs.Asked.{factors_of, tables_of, anchor_of, sheets_of, zeros, call_with, call_asked}
 use Rattle.job.specs.Printed.{printed, call_text}
 use Rattle.job.proofs.Accepted.{Parts}
 use Rattle.job.specs.Texts.{Texts}
@@ -23,7 +24,6 @@ use Rattle.schedule.specs.DefaultSchedule.{pairs_in, initial}
 use Rattle.schedule.proofs.DefaultSchedule.{loads, standard_fits}
 use Rattle.job_reader.specs.ButEdges.{read_but_edges}
 use Rattle.job_reader.proofs.ButEdges.{LeftToCall, read_as}
-use Rattle.bench_text.specs.Stored.{Stored}
 
 -- ---- numbers stored at an array's front
 
@@ -54,9 +54,29 @@ standard_prefix d e =
       size = sym (length-take-le d.count d.numbers fits);
     }
 
+pub standard_few : (d : DefaultSchedule) → d ≡ initial → d.count ≤ 32
+unfolding initial standard
+standard_few d e = let twelve : d.count ≡ 12 = ap (λ (x : DefaultSchedule). x.count) e in omega arith
+
+abbrev pub call_over : List ℕ → Front → List ℕ → List ℕ → List ℕ → List ℕ → Call
+call_over plan f anchor sheets schedule six =
+    record {
+      bytes = plan;
+      start = f.ends.start;
+      goal = f.ends.goal;
+      barred = f.ends.barred;
+      anchor = anchor;
+      sheets = sheets;
+      count = f.guide_count;
+      schedule = schedule;
+      default_schedule = six;
+      budget = f.ends.budget;
+      memory = zeros;
+    }
+
 -- ---- a job that was read but for its plan's edges
 
-module _ (s : List ℕ) (f : Front) (v : ℕ) (h : read_but_edges s ≡ Accepted f v) where
+module _ (s : List ℕ) (f : Front) (v : ℕ) (h : read_but_edges s ≡ Ok (f, v)) where
   abbrev left : LeftToCall s f v (job_read s)
   left = (read_as s).accepted f v h
 
@@ -75,40 +95,30 @@ module _ (s : List ℕ) (f : Front) (v : ℕ) (h : read_but_edges s ≡ Accepted
 
   -- its factors and its tables, stored at the fronts of the arrays for them
   pub factors_stored :
-      (new : List ℕ) → new ≡ sets (replicate 32 0) 0 (values (2 * f.round_count) s f.factors_at) →
+      (old new : List ℕ) → length old ≡ 32 → new ≡ sets old 0 (values (2 * f.round_count) s f.factors_at) →
       Prefix (2 * f.round_count) new (factors_of s f)
   unfolding factors_of
-  factors_stored new stored =
-      stored_prefix (replicate 32 0) new _ _ parts.fits.schedule factors_few stored
+  factors_stored old new room stored =
+      stored_prefix old new _ _ parts.fits.schedule (omega (arith, factors_few, room)) stored
 
   pub tables_stored :
-      (new : List ℕ) → new ≡ sets (replicate 2304 0) 0 (values ((1 + f.guide_count) * v) s f.tables_at) →
+      (old new : List ℕ) → length old ≡ 2304 → new ≡ sets old 0 (values ((1 + f.guide_count) * v) s f.tables_at) →
       Prefix ((1 + f.guide_count) * v) new (tables_of s f v)
   unfolding tables_of table_count
-  tables_stored new stored = stored_prefix (replicate 2304 0) new _ _ numbers_all (omega (arith, numbers_few, length-replicate {A = ℕ} 2304 0)) stored
+  tables_stored old new room stored = stored_prefix old new _ _ numbers_all (omega (arith, numbers_few, room)) stored
 
-module _ (s : List ℕ) (f : Front) (v : ℕ) (schedule tables : List ℕ) (h : Stored s f v schedule tables) where
-  pub first_table : v ≤ length tables
-  first_table =
-      omega (arith, numbers_all s f v h.accepted, ap length h.tables, mul-le-mul_left v (one_or_more f.guide_count))
-    where
-      one_or_more : (g : ℕ) → 1 ≤ 1 + g
-      one_or_more g = omega arith
-
-  -- the call over what was stored is the job's
-  pub call_is :
-      call_with (take (f.plan_end - f.plan_at) (drop f.plan_at s)) f (take v tables) (take (length tables - v) (drop v tables)) schedule
-      ≡ call_asked s f v
-  unfolding call_asked plan_of anchor_of sheets_of
-  call_is =
-      let rest : take (length tables - v) (drop v tables) ≡ drop v tables
-      = take_all (length tables - v) (drop v tables) (omega (arith, length-drop v tables)) in
-      rw (rest, h.tables, h.schedule)
+  module _ (factors tables : List ℕ) (a : factors ≡ factors_of s f) (b : tables ≡ tables_of s f v) where
+    -- the call over what was stored is the job's
+    pub call_is :
+        (six : List ℕ) → six ≡ standard →
+        call_over (take (f.plan_end - f.plan_at) (drop f.plan_at s)) f (take v tables) (drop v tables) factors six ≡ call_asked s f v
+    unfolding call_asked call_with plan_of anchor_of sheets_of
+    call_is six e = rw (b, a, e)
 
 -- ---- what a call hands over
 
 pub handed_text :
-    (c : Call) (a : Answer) (route log : List ℕ) {old : List ℕ} {r : ℕ} {new : List ℕ} → a ≡ answer c → route ≡ (memory_after c).route →
+    (c : Call) (a : Result Answer Refusal) (route log : List ℕ) {old : List ℕ} {r : ℕ} {new : List ℕ} → a ≡ answer c → route ≡ (memory_after c).route →
     log ≡ (memory_after c).log → Texts (printed (figures a) route log) old r new → Texts (call_text c) old r new
 unfolding call_text
 handed_text c a route log e f g t = rw (e, f, g) at t

@@ -10,6 +10,8 @@ use Rattle.graph.specs.Lists.{none}
 use Rattle.graph.specs.OneForm.{EdgeWithin, Within}
 use Rattle.graph.proofs.Within.{accepted_within}
 use Rattle.text.proofs.Lengths.{length_barred_line}
+use Rattle.std.specs.Prelude.{Result}
+use Rattle.graph.specs.declared.refusal.Refusal.{Refusal}
 use Rattle.search.specs.declared.Answer.{Answer}
 use Rattle.search.specs.declared.Explanation.{Explanation}
 use Rattle.search.specs.Call.{Memory, Call, plan_edges}
@@ -19,7 +21,7 @@ use Rattle.search.specs.Reason.{Inquiry, inquiry_fault, answered, last_vertices,
 use Rattle.search.proofs.Admitted.{exact, plan_edges_lem}
 use Rattle.search.proofs.Tools.{get_d_in}
 use Rattle.search.proofs.Reason.{unrefused, no_fault}
-use Rattle.workspace.specs.declared.Size.{Size}
+use Rattle.graph.specs.declared.Size.{Size}
 use Rattle.workspace.specs.Layout.{graph_of}
 use Rattle.workspace.specs.Holds.{Holds}
 use Rattle.workspace.proofs.Holding.{holds_graph, holds_whole}
@@ -52,7 +54,7 @@ module _ (x : Inquiry) (z : Size) (size_is : z ≡ size_in (header x.call.bytes)
 
   module _ (h : (figures r.answer).ending ≡ no_route) where
     passed : inquiry_fault x ≡ none
-    passed = no_fault x (ap (λ (a : Answer). (figures a).ending) (sym answer_is) ∙ h)
+    passed = no_fault x (ap (λ (a : Result Answer Refusal). (figures a).ending) (sym answer_is) ∙ h)
 
     abbrev y : Admitted c
     y = (exact c).0 (unrefused x passed)

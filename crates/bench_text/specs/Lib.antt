@@ -1,1 +1,1 @@
-pub mod Stored
+-- No definitions of its own.

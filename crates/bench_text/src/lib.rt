@@ -1,13 +1,12 @@
 // Job bytes to printed text, with a line for every turn or with the reason for "no route", in a lent buffer.
 #![tactic(auto)]
 
+mod asking;
 mod explaining;
 mod planning;
 
 ghost use Rattle.job.specs.Explained.{explain_text};
 ghost use Rattle.job.specs.Texts.{Texts, Prints};
-
-use job::JobRead;
 
 // The text that the bench program prints for a job: its length, and its first bytes in the buffer, as far as
 // there is room; it has a line for every turn.
@@ -15,8 +14,8 @@ pub fn bench_text(job: &[u8], out: &mut [u8]) -> usize
     ensures { Prints job.now out.old result out.new }
 {
     match job_reader::read_but_edges(job) {
-        JobRead::Accepted(front, vertices) => planning::plan_job(out, job, front, vertices, false),
-        JobRead::Refused(n, p) => printing::put_refused(out, n, p),
+        Ok((front, vertices)) => planning::plan_job(out, job, front, vertices),
+        Err(refusal) => printing::put_refused(out, refusal.cause.number(), refusal.at),
     }
 }
 
@@ -25,7 +24,7 @@ pub fn explain_text(job: &[u8], out: &mut [u8]) -> usize
     ensures { Texts (explain_text job.now) out.old result out.new }
 {
     match job_reader::read_but_edges(job) {
-        JobRead::Accepted(front, vertices) => planning::plan_job(out, job, front, vertices, true),
-        JobRead::Refused(number, position) => printing::put_refused(out, number, position),
+        Ok((front, vertices)) => planning::explain_job(out, job, front, vertices),
+        Err(refused) => printing::put_refused(out, refused.cause.number(), refused.at),
     }
 }

@@ -2,6 +2,7 @@
 use mathlib.Core.Path.{refl}
 use Rattle.leb128.specs.Number.{plan_groups, more, answered, read, encode}
 use Rattle.leb128.specs.Number
+use Rattle.graph.specs.Refusal.{number_of}
 use Rattle.graph.specs.Rows.{vertex_count_rows, edge_count_rows, tail_rows, head_rows, cost_rows, class_rows, through, through_all, take_number, taking}
 use Rattle.graph.specs.Plan.{least_after, past, next_edge, before, onward, edges_from, header, after_header, decode, sizes}
 use Rattle.graph.specs.Lists.{over, room_for, read_as, edges_in, read_answer, list_after, edges_of, list_rows, edge_rows, edges_fault, write_fault, edge_bytes, edges_bytes, bytes_of, out_after}
@@ -29,7 +30,7 @@ use Rattle.cases.proofs.TwoVertices.{between_two_vertices}
 use Rattle.cases.proofs.StartIsGoal.{start_is_goal}
 
 computed : Cases × Apart × Barred × Costs × Opinion × Lead × Defaults × Reasons
-unfolding Number.decode more answered read plan_groups encode vertex_count_rows edge_count_rows tail_rows head_rows cost_rows class_rows through through_all take_number taking least_after past next_edge before onward edges_from header after_header decode sizes over room_for read_as edges_in read_answer list_after edges_of list_rows edge_rows edges_fault write_fault edge_bytes edges_bytes bytes_of out_after edge_cost on_edge cost_from route_cost barred_by permitted cyclic guides heuristic factors standard unreached no_pred route_end no_opinion fresh origin at_first at key offered better least_from least step_one candidate choose marked lowered relax relax_all expand first_turn next_turn turned ended in_hand step choice turn trace traced improves cost_or reopened end_round on_finished settle settled begin on_due advance run moments search or_default schedule_of out_of_range rising unfit_schedule pairs row first ends_row tables_row schedule_row memory_row goal_row edges_row fault_in fault_of plan_edges tables job_in job_from job_of bound summary cut_short answer_at answer_of figures route_words route_after log_word log_after edges_below first_edges mark_word two_each work_words outcome answer_in answer memory_in memory_after round_of h_of key_of with_pick shown lists_row inquiry_fault_in inquiry_fault reason.answered call_memory numbers_of is_reached leaves last_vertices reached leaving listed_at vertices_listed edges_listed explanation vertices_after edges_after
+unfolding Number.decode more answered read plan_groups encode vertex_count_rows edge_count_rows tail_rows head_rows cost_rows class_rows through through_all take_number taking least_after past next_edge before onward edges_from header after_header decode sizes over room_for read_as edges_in read_answer list_after edges_of list_rows edge_rows edges_fault write_fault edge_bytes edges_bytes bytes_of out_after edge_cost on_edge cost_from route_cost barred_by permitted cyclic guides heuristic factors standard unreached no_pred route_end no_opinion fresh origin at_first at key offered better least_from least step_one candidate choose marked lowered relax relax_all expand first_turn next_turn turned ended in_hand step choice turn trace traced improves cost_or reopened end_round on_finished settle settled begin on_due advance run moments search or_default schedule_of out_of_range rising unfit_schedule pairs row first ends_row tables_row schedule_row memory_row goal_row edges_row fault_in fault_of plan_edges tables job_in job_from job_of bound summary cut_short answer_at answer_of figures number_of route_words route_after log_word log_after edges_below first_edges mark_word two_each work_words outcome answer_in answer memory_in memory_after round_of h_of key_of with_pick shown lists_row inquiry_fault_in inquiry_fault reason.answered call_memory numbers_of is_reached leaves last_vertices reached leaving listed_at vertices_listed edges_listed explanation vertices_after edges_after
 computed = (
   record {
     job_A = record { says = refl; leaves = refl };

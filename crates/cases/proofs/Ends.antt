@@ -3,6 +3,8 @@ use mathlib.Core.Path.{◌≡◌}
 use mathlib.Core.List.{List}
 use Prim.Native.Nat.{ℕ, suc, ◌-◌}
 use lib.ListN.{length}
+use Rattle.graph.specs.Refusal.{number_of}
+use Rattle.graph.specs.declared.refusal.Cause.{Cause}
 use Rattle.graph.specs.Plan
 use Rattle.graph.specs.Plan.{decode, sizes}
 use Rattle.graph.specs.Lists.{none, read_as, read_answer}
@@ -22,7 +24,7 @@ pub handed : (c : Call) (f : Figures) (m : Memory) → fault_of c ≡ none → f
 unfolding answer memory_after
 handed c f m e a b = record { says = rw e a; leaves = rw e b }
 
-pub plan_refused : (bytes : List ℕ) (n p : ℕ) → decode bytes ≡ Plan.refused n p → PlanRefused bytes n p
-unfolding read_answer read_as sizes answer memory_after answer_in memory_in fault_of fault_in figures
+pub plan_refused : (bytes : List ℕ) (n : Cause) (p : ℕ) → decode bytes ≡ Plan.refused n p → PlanRefused bytes n p
+unfolding read_answer read_as sizes answer memory_after answer_in memory_in fault_of fault_in figures number_of
 plan_refused bytes n p e =
     record { decoded = e; read = λ ts hs cs ks. rw e; called = λ c h. record { says = rw (h, e); leaves = rw (h, e) } }

@@ -8,6 +8,7 @@ use lib.ListN.{length, replicate, length-replicate}
 use lib.Seq.{take-nil}
 use lib.Dec.{ltb, eqb}
 use borrow.Author.Tests.{eq-eqb, ne_eqb}
+use Rattle.graph.specs.Refusal.{number_of}
 use Rattle.graph.specs.Plan.{Decoded, accepted, refused, decode}
 use Rattle.graph.specs.Lists.{none, over}
 use Rattle.search.specs.declared.Vertex.{Vertex}
@@ -144,7 +145,7 @@ module _ (c : Call) (y : Admitted c) (same : c.start ≡ c.goal) where
   valid = admitted c e
 
   says : figures (answer_in c none) ≡ all_rounds c
-  unfolding answer_in outcome search answer_of answer_at figures summary bound
+  unfolding answer_in outcome search answer_of answer_at figures number_of summary bound
   says = rw (runs (job_of c) valid same_ends c.budget)
 
   leaves : memory_in c none ≡ start_alone c

@@ -8,6 +8,7 @@ use native.Mathlib.Omega.{arith}
 use lib.ListN.{length}
 use Rattle.leb128.specs.Number
 use Rattle.leb128.specs.Number.{plan_groups, answered, read}
+use Rattle.graph.specs.Refusal.{number_of}
 use Rattle.graph.specs.Rows.{vertex_count_rows, edge_count_rows, through, through_all, take_number, taking}
 use Rattle.graph.specs.Plan.{edges_from, header, after_header, decode}
 use Rattle.graph.specs.Lists.{none, edges_in}
@@ -103,7 +104,7 @@ module _ (f : Factors) (fs : List Factors) where
 module _ (n : ℕ) (m : Memory) (f : Factors) (fs : List Factors) (c : Call) (e : job_of c ≡ job f fs) (b : c.budget ≡ suc n) (es : edges_in (decode c.bytes) ≡ [])
     (lent : c.memory ≡ m) where
   says : figures (answer_in c none) ≡ no_route_after 1
-  unfolding answer_in outcome search answer_of answer_at figures
+  unfolding answer_in outcome search answer_of answer_at figures number_of
   says = rw (e, b, runs f fs n)
 
   leaves : memory_in c none ≡ two_vertices_after m

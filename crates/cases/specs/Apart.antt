@@ -1,5 +1,5 @@
 -- Jobs that tell document 01's rules from others that are sound too; none of its (p) cases. Proved in proofs/Cases.antt.
-use Rattle.std.specs.Prelude.{ℕ, ◌≡◌, List, [], ◌∷◌, ◌++◌, map, replicate}
+use Rattle.std.specs.Prelude.{ℕ, ◌≡◌, List, [], ◌∷◌, ◌++◌, map, replicate, Ok}
 use Rattle.search.specs.Job.{Job, standard}
 use Rattle.search.specs.Rounds.{search}
 use Rattle.search.specs.Call.{Call, job_of}
@@ -113,4 +113,4 @@ pub record Apart : Type 0 where
       })
   -- under another rule for whose turn it is, what `AnyRule` speaks of, job B has other turns
   pub guide_3 : map log_word (search job_b3 100).history ≡ 196608 ∷ 196609 ∷ 196611 ∷ 196613 ∷ 196611 ∷ 2 ∷ []
-  pub guide_3_says : figures (answer_of job_b3 (search job_b3 100).final) ≡ routed 4 5 2 6 10000
+  pub guide_3_says : figures (Ok (answer_of job_b3 (search job_b3 100).final)) ≡ routed 4 5 2 6 10000

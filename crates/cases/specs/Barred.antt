@@ -1,8 +1,7 @@
 -- Cases of lane classes and barred classes (document 02, E1). Proved in proofs/Cases.antt.
-use Rattle.std.specs.Prelude.{ℕ, ◌≡◌, List, [], ◌∷◌, replicate}
-use Rattle.graph.specs.declared.PlanRead.{PlanRead}
-use Rattle.graph.specs.declared.PlanRead.TheVariants.{Sizes, Refused}
-use Rattle.graph.specs.declared.PlanWritten.TheVariants.{Count}
+use Rattle.graph.specs.declared.refusal.Cause.TheVariants as cause
+use Rattle.std.specs.Prelude.{ℕ, ◌≡◌, List, [], ◌∷◌, replicate, Ok, Err}
+use Rattle.graph.specs.Refusal.{PlanRead, refusal_of, size_of}
 use Rattle.graph.specs.Lists.{class_of, read_answer, list_after, Fault, fault, write_fault, out_after}
 use Rattle.search.specs.Call.{Call}
 use Rattle.job.specs.JobA.{plan_with, plan_a}
@@ -62,14 +61,14 @@ pub record Barred : Type 0 where
   pub barred_256 : HandsOver (call_on plan_a 256 [] 100) (refused_at 8 0) lent
   pub barred_255 : HandsOver (call_on plan_a 255 [] 100) (refused_at 9 0) lent
   -- a class above 7: 15 at its first byte; after 5 where the cost is too large too
-  pub class_8 : PlanRefused (plan_with 0x08) 15 5
-  pub class_8_written : written 16000000 8 ≡ fault 15 0
-  pub cost_before_class : written 16000001 8 ≡ fault 5 0
+  pub class_8 : PlanRefused (plan_with 0x08) cause.Class 5
+  pub class_8_written : written 16000000 8 ≡ fault cause.Class 0
+  pub cost_before_class : written 16000001 8 ≡ fault cause.Cost 0
   -- read into lists: four of M words are enough, and 11 where one is shorter; the classes, and the rest of their list as it was
-  pub read_exact : read_into 4 4 4 4 ≡ Sizes 4 4
+  pub read_exact : read_into 4 4 4 4 ≡ Ok (size_of 4 4)
   pub read_short :
-      (read_into 3 4 4 4 ≡ Refused 11 0) × (read_into 4 3 4 4 ≡ Refused 11 0) × (read_into 4 4 3 4 ≡ Refused 11 0) × (read_into 4 4 4 3 ≡ Refused 11 0)
-  pub classes_read : list_after class_of (plan_with 0x01) (replicate 5 old) (Sizes 4 4) ≡ 1 ∷ 0 ∷ 0 ∷ 0 ∷ old ∷ []
+      (read_into 3 4 4 4 ≡ Err (refusal_of cause.Memory 0)) × (read_into 4 3 4 4 ≡ Err (refusal_of cause.Memory 0)) × (read_into 4 4 3 4 ≡ Err (refusal_of cause.Memory 0)) × (read_into 4 4 4 3 ≡ Err (refusal_of cause.Memory 0))
+  pub classes_read : list_after class_of (plan_with 0x01) (replicate 5 old) (Ok (size_of 4 4)) ≡ 1 ∷ 0 ∷ 0 ∷ 0 ∷ old ∷ []
   -- written from lists: unequal lists are 3, and plan A's lists make its bytes
-  pub classes_unequal : write_fault 4 tails_a heads_a costs_a (1 ∷ 0 ∷ 0 ∷ 0 ∷ 0 ∷ []) ≡ fault 3 0
-  pub bytes_written : out_after 4 tails_a heads_a costs_a (1 ∷ 0 ∷ 0 ∷ 0 ∷ []) (replicate 18 old) (Count 18) ≡ plan_with 0x01
+  pub classes_unequal : write_fault 4 tails_a heads_a costs_a (1 ∷ 0 ∷ 0 ∷ 0 ∷ 0 ∷ []) ≡ fault cause.EdgeCount 0
+  pub bytes_written : out_after 4 tails_a heads_a costs_a (1 ∷ 0 ∷ 0 ∷ 0 ∷ []) (replicate 18 old) (Ok 18) ≡ plan_with 0x01

@@ -1,6 +1,8 @@
 -- The cases that document 01 marks (p), one row each in one table, with classes and barred numbers as document 02 (E1) has them, and with both work memories (E10). Proved in proofs/Cases.antt.
-use Rattle.std.specs.Prelude.{ℕ, ◌+◌, ◌-◌, ◌*◌, ◌≤◌, ◌≡◌, List, [], ◌∷◌, ◌++◌, length, take, replicate}
-use Rattle.graph.specs.declared.PlanRead.TheVariants.{Refused}
+use Rattle.graph.specs.declared.refusal.Cause.TheVariants as cause
+use Rattle.std.specs.Prelude.{ℕ, ◌+◌, ◌-◌, ◌*◌, ◌≤◌, ◌≡◌, List, [], ◌∷◌, ◌++◌, length, take, replicate, Err}
+use Rattle.graph.specs.declared.refusal.Cause.{Cause}
+use Rattle.graph.specs.Refusal.{number_of, refusal_of}
 use Rattle.graph.specs.Plan.{decode}
 use Rattle.graph.specs.Plan
 use Rattle.graph.specs.Lists.{over, read_answer}
@@ -33,10 +35,10 @@ refused_at number position =
     record { ending = refused; number = number; position = position; cost = 0; length = 0; rounds = 0; turns = 0; bound = 0 }
 
 -- plan bytes are refused, n at p: where they are read, where they are read into lists, and by every planner call, which leaves memory as it is
-pub record PlanRefused (bytes : List ℕ) (n p : ℕ) : Type 0 where
+pub record PlanRefused (bytes : List ℕ) (n : Cause) (p : ℕ) : Type 0 where
   pub decoded : decode bytes ≡ Plan.refused n p
-  pub read : (ts hs cs ks : List ℕ) → read_answer bytes ts hs cs ks ≡ Refused n p
-  pub called : (c : Call) → c.bytes ≡ bytes → HandsOver c (refused_at n p) c.memory
+  pub read : (ts hs cs ks : List ℕ) → read_answer bytes ts hs cs ks ≡ Err (refusal_of n p)
+  pub called : (c : Call) → c.bytes ≡ bytes → HandsOver c (refused_at (number_of n) p) c.memory
 
 -- ---- plan A and job A
 
@@ -216,11 +218,11 @@ pub record Cases : Type 0 where
   -- (p) Start = goal, allowance 0, valid tables: cost 0, every round finished. So of every call that is not refused
   pub start_is_goal : (c : Call) → Admitted c → c.start ≡ c.goal → HandsOver c (all_rounds c) (start_alone c)
   -- (p) no bytes: 1 at 0
-  pub no_bytes : PlanRefused [] 1 0
+  pub no_bytes : PlanRefused [] cause.Number 0
   -- (p) `80 00`: 1 at 0
-  pub not_shortest : PlanRefused (0x80 ∷ 0x00 ∷ []) 1 0
+  pub not_shortest : PlanRefused (0x80 ∷ 0x00 ∷ []) cause.Number 0
   -- (p) `04`: 1 at 1
-  pub no_edge_count : PlanRefused (0x04 ∷ []) 1 1
+  pub no_edge_count : PlanRefused (0x04 ∷ []) cause.Number 1
   -- (p) plan A, anchor 7 5 3 0: 13 at 0
   pub anchor_breaks_edge_0 : HandsOver (call_a (7 ∷ 5 ∷ 3 ∷ 0 ∷ []) 100) (refused_at 13 0) lent
   -- (p) plan A, anchor 6 5 3 1: 12

@@ -1,6 +1,6 @@
 -- Cases of costs up to 16,000,000, of numbers of four groups, and of both work memories (document 02, E10). Proved in proofs/Cases.antt.
-use Rattle.std.specs.Prelude.{ℕ, ◌≡◌, List, [], ◌∷◌, ◌++◌, replicate}
-use Rattle.graph.specs.declared.PlanWritten.TheVariants.{Count}
+use Rattle.graph.specs.declared.refusal.Cause.TheVariants as cause
+use Rattle.std.specs.Prelude.{ℕ, ◌≡◌, List, [], ◌∷◌, ◌++◌, replicate, Ok}
 use Rattle.graph.specs.Plan.{accepted, decode}
 use Rattle.graph.specs.Lists.{none, fault, out_after}
 use Rattle.search.specs.Job.{standard}
@@ -52,28 +52,28 @@ pub record Costs : Type 0 where
   -- `C1 84 3D`, 1,000,001, passes, and so does 16,000,000; 16,000,001 is 5 at its first byte
   pub above_a_million : Passes (0xC1 ∷ 0x84 ∷ 0x3D ∷ []) 1000001
   pub dearest : Passes (0x80 ∷ 0xC8 ∷ 0xD0 ∷ 0x07 ∷ []) 16000000
-  pub too_dear : PlanRefused (costing (0x81 ∷ 0xC8 ∷ 0xD0 ∷ 0x07 ∷ [])) 5 4
+  pub too_dear : PlanRefused (costing (0x81 ∷ 0xC8 ∷ 0xD0 ∷ 0x07 ∷ [])) cause.Cost 4
   -- five groups are 1, and so are four that are not shortest
-  pub five_groups : PlanRefused (costing (0x80 ∷ 0x80 ∷ 0x80 ∷ 0x80 ∷ 0x01 ∷ [])) 1 4
-  pub four_not_shortest : PlanRefused (costing (0x81 ∷ 0x80 ∷ 0x80 ∷ 0x00 ∷ [])) 1 4
+  pub five_groups : PlanRefused (costing (0x80 ∷ 0x80 ∷ 0x80 ∷ 0x80 ∷ 0x01 ∷ [])) cause.Number 4
+  pub four_not_shortest : PlanRefused (costing (0x81 ∷ 0x80 ∷ 0x80 ∷ 0x00 ∷ [])) cause.Number 4
   -- four groups pass 1 and meet 2 as V, 3 as M, 4 as tail or head, 15 as class
-  pub four_as_V : PlanRefused four_groups 2 0
-  pub four_as_M : PlanRefused (0x02 ∷ four_groups) 3 1
-  pub four_as_tail : PlanRefused (0x02 ∷ 0x01 ∷ four_groups) 4 2
-  pub four_as_head : PlanRefused (0x02 ∷ 0x01 ∷ 0x00 ∷ four_groups) 4 3
-  pub four_as_class : PlanRefused (0x02 ∷ 0x01 ∷ 0x00 ∷ 0x01 ∷ 0x00 ∷ four_groups) 15 5
+  pub four_as_V : PlanRefused four_groups cause.VertexCount 0
+  pub four_as_M : PlanRefused (0x02 ∷ four_groups) cause.EdgeCount 1
+  pub four_as_tail : PlanRefused (0x02 ∷ 0x01 ∷ four_groups) cause.Vertex 2
+  pub four_as_head : PlanRefused (0x02 ∷ 0x01 ∷ 0x00 ∷ four_groups) cause.Vertex 3
+  pub four_as_class : PlanRefused (0x02 ∷ 0x01 ∷ 0x00 ∷ 0x01 ∷ 0x00 ∷ four_groups) cause.Class 5
   -- written from lists
-  pub dearest_written : out_after 2 (0 ∷ []) (1 ∷ []) (16000000 ∷ []) (0 ∷ []) (replicate 9 old) (Count 9) ≡ costing (0x80 ∷ 0xC8 ∷ 0xD0 ∷ 0x07 ∷ [])
+  pub dearest_written : out_after 2 (0 ∷ []) (1 ∷ []) (16000000 ∷ []) (0 ∷ []) (replicate 9 old) (Ok 9) ≡ costing (0x80 ∷ 0xC8 ∷ 0xD0 ∷ 0x07 ∷ [])
   pub dearest_passes : written 16000000 0 ≡ none
-  pub too_dear_written : written 16000001 0 ≡ fault 5 0
+  pub too_dear_written : written 16000001 0 ≡ fault cause.Cost 0
   -- 11: job A needs 4 words of route memory, 25 of work memory and 8 numbers of the wide one
   pub enough : fault_of (lent_a 4 25 8) ≡ none
-  pub short_route : fault_of (lent_a 3 25 8) ≡ fault 11 0
-  pub short_work : fault_of (lent_a 4 24 8) ≡ fault 11 0
-  pub short_wide : fault_of (lent_a 4 25 7) ≡ fault 11 0
+  pub short_route : fault_of (lent_a 3 25 8) ≡ fault cause.Memory 0
+  pub short_work : fault_of (lent_a 4 24 8) ≡ fault cause.Memory 0
+  pub short_wide : fault_of (lent_a 4 25 7) ≡ fault cause.Memory 0
   -- 11 comes after 10, for an odd schedule, and before 12, for an anchor table that is not 0 at the goal
-  pub schedule_before_short : fault_of (short_a anchor_a (200 ∷ [])) ≡ fault 10 0
-  pub short_before_anchor : fault_of (short_a (6 ∷ 5 ∷ 3 ∷ 1 ∷ []) (100 ∷ 100 ∷ [])) ≡ fault 11 0
+  pub schedule_before_short : fault_of (short_a anchor_a (200 ∷ [])) ≡ fault cause.Schedule 0
+  pub short_before_anchor : fault_of (short_a (6 ∷ 5 ∷ 3 ∷ 1 ∷ []) (100 ∷ 100 ∷ [])) ≡ fault cause.Memory 0
   -- two of the dearest lanes: g and cost when last expanded in the wide memory, predecessor and marks behind the classes
   pub dear_route :
       HandsOver dear (routed 32000000 3 1 2 10000)

@@ -1,4 +1,5 @@
 -- Cases of the default schedule (document 02, E3: the site's own house schedule). Proved in proofs/Cases.antt.
+use Rattle.graph.specs.declared.refusal.Cause.TheVariants as cause
 use Rattle.std.specs.Prelude.{ℕ, ◌≡◌, List, [], ◌∷◌, map, replicate}
 use Rattle.graph.specs.Lists.{none, fault}
 use Rattle.search.specs.declared.Factors.{Factors}
@@ -60,5 +61,5 @@ pub record Defaults : Type 0 where
   pub first_rises : RefusedOn (200 ∷ 200 ∷ 201 ∷ 200 ∷ [])
   pub second_rises : RefusedOn (200 ∷ 200 ∷ 200 ∷ 201 ∷ [])
   -- after 9, an anchor table of no numbers, and before 11, one number of the wide memory too few
-  pub tables_before : fault_of (with_schedules [] [] (with_tables [] 0 [] [] (job_a 100))) ≡ fault 9 0
-  pub before_short : fault_of (with_schedules [] [] (lent_a 4 25 7)) ≡ fault 10 0
+  pub tables_before : fault_of (with_schedules [] [] (with_tables [] 0 [] [] (job_a 100))) ≡ fault cause.Tables 0
+  pub before_short : fault_of (with_schedules [] [] (lent_a 4 25 7)) ≡ fault cause.Schedule 0

@@ -14,7 +14,9 @@ use Rattle.graph.proofs.Tests.{or_false, or_left, or_right}
 use Rattle.graph.specs.Lists.{Fault, none, fault, over, edges_in}
 use Rattle.search.specs.declared.Vertex.{Vertex}
 use Rattle.search.specs.declared.Answer.{Answer}
-use Rattle.search.specs.declared.Answer.TheVariants.{Refused}
+use Rattle.std.specs.Prelude.{Result, Err}
+use Rattle.graph.specs.declared.refusal.Refusal.{Refusal}
+use Rattle.graph.specs.Refusal.{refusal_of}
 use Rattle.search.specs.declared.Explanation.{Explanation}
 use Rattle.search.specs.Call.{Memory, Call, fault_in, fault_of, plan_edges, job_in, job_from, job_of}
 use Rattle.search.specs.Admitted.{Admitted}
@@ -24,7 +26,7 @@ use Rattle.search.specs.Reason.{Inquiry, inquiry_fault_in, inquiry_fault, answer
 use Rattle.search.proofs.Guarantee.{guaranteed, any_rule}
 use Rattle.search.proofs.Reason as reason
 use Rattle.search.proofs.Reason.{own, roomy, unrefused, sized, reasoned}
-use Rattle.workspace.specs.declared.Size.{Size}
+use Rattle.graph.specs.declared.Size.{Size}
 use Rattle.workspace.specs.Layout as layout
 use Rattle.workspace.specs.Layout.{base, vertices_of, graph_of}
 use Rattle.workspace.specs.Holds.{Rising, Holds}
@@ -34,9 +36,9 @@ use Rattle.planner.specs.Carried.{words_of}
 use Rattle.workspace.proofs.Holding.{accepted_rising, holds_vertices, holds_graph, holds_ready, holds_whole}
 use Rattle.explanation.specs.Explained.{Explained}
 use Rattle.explanation.specs.Listing.{size_in, is_no_route, Source, Listable, reached_in, leaving_in, Lists}
-use Rattle.explanation.proofs.Listed.{same_listed}
+use Rattle.explanation.proofs.Lists.{same_listed}
 
-same_explanation : {a b : Answer} {v w e f : ℕ} → a ≡ b → v ≡ w → e ≡ f →
+same_explanation : {a b : Result Answer Refusal} {v w e f : ℕ} → a ≡ b → v ≡ w → e ≡ f →
     ◌≡◌ {A = Explanation} (record { answer = a; vertices = v; edges = e }) (record { answer = b; vertices = w; edges = f })
 same_explanation p q r = rw (p, q, r)
 
@@ -80,7 +82,7 @@ module _ (x : Inquiry) (z : Size) (size_is : z ≡ size_in (header x.call.bytes)
   short = ltb (length x.vertices) z.vertices || ltb (length x.edges) z.edges
 
   -- what is to be shown: the call answers as the inquiry does, and leaves what the lists are made of
-  record Answers (a : Answer) (m : Memory) : Type 0 where
+  record Answers (a : Result Answer Refusal) (m : Memory) : Type 0 where
     answer_is : a ≡ answered x
     memory_is : m ≡ call_memory x
     source : is_no_route a ≡ true → Source z (words_of m) x.vertices x.edges
@@ -159,11 +161,11 @@ module _ (x : Inquiry) (z : Size) (size_is : z ≡ size_in (header x.call.bytes)
     same_fault : inquiry_fault x ≡ fault_of c
     same_fault = own x room
 
-    module _ (a : Answer) (m : Memory) (k : Planned c a m) where
+    module _ (a : Result Answer Refusal) (m : Memory) (k : Planned c a m) where
       -- where there is no route, the call is not refused
       not_refused : is_no_route a ≡ true → fault_of c ≡ none
       unfolding answer is_no_route answer_in
-      not_refused e = by (fault_of c) refl (subst (λ (y : Answer). is_no_route y ≡ true) k.answers e)
+      not_refused e = by (fault_of c) refl (subst (λ (y : Result Answer Refusal). is_no_route y ≡ true) k.answers e)
         where
           by : (f : Fault) → fault_of c ≡ f → is_no_route (answer_in c f) ≡ true → fault_of c ≡ none
           by none g t = g
@@ -192,7 +194,7 @@ module _ (x : Inquiry) (z : Size) (size_is : z ≡ size_in (header x.call.bytes)
           }
 
     -- all of route memory is lent on
-    whole_lent : (a : Answer) (m : Memory) → Planned (lent_to (length c.memory.route) c) a m → Answers a (with_rest (length c.memory.route) c m)
+    whole_lent : (a : Result Answer Refusal) (m : Memory) → Planned (lent_to (length c.memory.route) c) a m → Answers a (with_rest (length c.memory.route) c m)
     whole_lent a m p =
         let rest : m.route ++ drop (length c.memory.route) c.memory.route ≡ m.route
         = ap (λ (l : List ℕ). m.route ++ l) (drop-length c.memory.route) ∙ append-nil m.route in
@@ -222,12 +224,12 @@ module _ (x : Inquiry) (z : Size) (size_is : z ≡ size_in (header x.call.bytes)
     some_fault : inquiry_fault x ≡ none → ⊥
     some_fault e = let y : Admitted c = (exact c).0 (unrefused x e) in not_roomy y.size y.edges y.plan (roomy x e)
 
-    module _ (a : Answer) (m : Memory) (k : Planned (lent_to 0 c) a m) where
+    module _ (a : Result Answer Refusal) (m : Memory) (k : Planned (lent_to 0 c) a m) where
       refused_there : (f : Fault) → inquiry_fault x ≡ f → fault_of (lent_to 0 c) ≡ f → Answers a (with_rest 0 c m)
       unfolding answered call_memory answer memory_after answer_in memory_in is_no_route
       refused_there none e g = absurd (some_fault e)
       refused_there (fault n p) e g =
-          let q : a ≡ Refused n p = k.answers ∙ rw g refl in
+          let q : a ≡ Err (refusal_of n p) = k.answers ∙ rw g refl in
           let u : m ≡ (lent_to 0 c).memory = k.memory_is ∙ rw g refl in
           record {
             answer_is = q ∙ rw e refl;
@@ -240,14 +242,7 @@ module _ (x : Inquiry) (z : Size) (size_is : z ≡ size_in (header x.call.bytes)
   -- ---- in either case
 
   module _ (n : ℕ) (words : n ≡ cond short 0 (length c.memory.route)) where
-    pub lends : n ≤ length c.memory.route
-    lends = by short words
-      where
-        by : (b : Bool) → n ≡ cond b 0 (length c.memory.route) → n ≤ length c.memory.route
-        by true e = omega arith
-        by false e = omega arith
-
-    module _ (a : Answer) (m : Memory) (k : Planned (lent_to n c) a m) where
+    module _ (a : Result Answer Refusal) (m : Memory) (k : Planned (lent_to n c) a m) where
       answers : Answers a (with_rest n c m)
       answers = by short refl words
         where

@@ -1,3 +1,3 @@
 pub mod Listing
-pub mod Listed
+pub mod Lists
 pub mod Explaining

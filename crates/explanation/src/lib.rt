@@ -3,27 +3,30 @@
 #![tactic(auto)]
 
 mod edges;
-mod lists;
+mod listed;
 mod vertices;
 
 ghost use Rattle.std.specs.Prelude.{◌≡◌, cond, ◌||◌, ltb};
 ghost use Rattle.graph.specs.Plan.{header};
 ghost use Rattle.workspace.specs.Layout.{mem};
-ghost use Rattle.planner.specs.Plan.{memory_of, call_of};
+ghost use Rattle.planner.specs.Plan.{memory_of, call_with};
 ghost use Rattle.explanation.specs.Explained.{inquiry_of, Explained};
 ghost use Rattle.explanation.specs.Listing.{size_in, is_no_route, Listable, Lists};
 
-use graph::Header;
+use admission::Call;
+use graph::Size;
+use graph::refusal::Refusal;
 use search::{Answer, Explanation};
-use workspace::Size;
+use workspace::Workspace;
 
 // V and M of a plan; 0 and 0 where its header is refused.
+#[tactic(auto, unfolding(crate::specs::Listing::size_in, graph::specs::Refusal::size_of))]
 pub fn size(bytes: &[u8]) -> Size
     ensures { result ≡ size_in (header bytes.now) }
 {
     match plan_check::header(bytes) {
-        Header::Counts(vertices, edges, _) => Size { vertices, edges },
-        Header::Refused(_, _) => Size {
+        Ok((size, _)) => size,
+        Err(_) => Size {
             vertices: 0,
             edges: 0,
         },
@@ -32,42 +35,37 @@ pub fn size(bytes: &[u8]) -> Size
 
 // How many words of route memory the call is lent: none where a list is too short, so that it is refused with 11
 // where no refusal comes before.
-fn route_lent(z: Size, route: usize, vertices: usize, edges: usize) -> usize
-    ensures { result ≡ cond (ltb vertices z.vertices || ltb edges z.edges) 0 route }
+fn route_lent(size: Size, route: usize, vertices: usize, edges: usize) -> usize
+    ensures { result ≡ cond (ltb vertices size.vertices || ltb edges size.edges) 0 route }
 {
-    if vertices < z.vertices as usize {
-        return 0;
+    if vertices < size.vertices as usize || edges < size.edges as usize {
+        0
+    } else {
+        route
     }
-    if edges < z.edges as usize {
-        return 0;
-    }
-    route
 }
 
 // Whether the answer is no route.
-fn is_no_route(answer: Answer) -> bool
+#[tactic(auto, unfolding(crate::specs::Listing::is_no_route))]
+fn is_no_route(answer: Result<Answer, Refusal>) -> bool
     ensures { result ≡ is_no_route answer }
 {
-    match answer {
-        Answer::Route(_) => false,
-        Answer::NoRoute(_) => true,
-        Answer::Unfinished(_) => false,
-        Answer::Refused(_, _) => false,
-    }
+    matches!(answer, Ok(Answer::NoRoute(_)))
 }
 
 // The lists after a call with this answer, over its memory.
 fn list(
-    answer: Answer,
-    work: &[u32],
-    wide: &[u64],
-    z: Size,
+    answer: Result<Answer, Refusal>,
+    work: &mut [u32],
+    wide: &mut [u64],
+    size: Size,
     barred: u32,
     vertices: &mut [u32],
     edges: &mut [u32],
 ) -> Explanation
-    requires { Listable answer z (mem work.now wide.now) vertices.old edges.old }
-    ensures { Lists answer z barred (mem work.now wide.now) vertices.old edges.old result vertices.new edges.new }
+    requires { Listable answer size (mem work.old wide.old) vertices.old edges.old }
+    ensures lists { Lists answer size barred (mem work.old wide.old) vertices.old edges.old result vertices.new edges.new }
+    ensures same { (work.new ≡ work.old) × (wide.new ≡ wide.old) }
 {
     if !is_no_route(answer) {
         return Explanation {
@@ -76,8 +74,9 @@ fn list(
             edges: 0,
         };
     }
-    let reached = vertices::list_vertices(work, wide, z, vertices);
-    let leaving = edges::list_edges(work, wide, z, barred, edges);
+    let space = Workspace { work, wide, size };
+    let reached = vertices::list_vertices(&space, vertices);
+    let leaving = edges::list_edges(&space, barred, edges);
     Explanation {
         answer,
         vertices: reached,
@@ -85,18 +84,10 @@ fn list(
     }
 }
 
-// Explains a planner call: its arguments, and lent besides a list for V vertices and one for M edges.
-pub fn explain<'a>(
-    bytes: &[u8],
-    start: u32,
-    goal: u32,
-    barred: u32,
-    anchor: &[u32],
-    guides: &[u32],
-    guide_count: u32,
-    schedule: &'a [u32],
-    default_schedule: &'a [u32],
-    budget: u32,
+// Explains a planner call, lent besides its own memory a list for V vertices and one for M edges; that memory is six
+// slices in the C interface.
+pub fn explain(
+    call: &Call<'_>,
     route: &mut [u32],
     log: &mut [u32],
     work: &mut [u32],
@@ -104,25 +95,10 @@ pub fn explain<'a>(
     vertices: &mut [u32],
     edges: &mut [u32],
 ) -> Explanation
-    ensures { Explained (inquiry_of (call_of bytes.now start goal barred anchor.now guides.now guide_count schedule.now default_schedule.now budget (memory_of route.old log.old work.old wide.old)) vertices.old edges.old) result (memory_of route.new log.new work.new wide.new) vertices.new edges.new }
+    ensures { Explained (inquiry_of (call_with call.now (memory_of route.old log.old work.old wide.old)) vertices.old edges.old) result (memory_of route.new log.new work.new wide.new) vertices.new edges.new }
 {
-    let z = size(bytes);
-    let words = route_lent(z, route.len(), vertices.len(), edges.len());
-    let answer = planner::plan(
-        bytes,
-        start,
-        goal,
-        barred,
-        anchor,
-        guides,
-        guide_count,
-        schedule,
-        default_schedule,
-        budget,
-        &mut route[..words],
-        log,
-        work,
-        wide,
-    );
-    list(answer, work, wide, z, barred, vertices, edges)
+    let size = size(call.bytes);
+    let words = route_lent(size, route.len(), vertices.len(), edges.len());
+    let answer = planner::plan(call, &mut route[..words], log, work, wide);
+    list(answer, work, wide, size, call.barred, vertices, edges)
 }

@@ -1,5 +1,7 @@
 -- A planner call for other languages: its answer as eight figures, in the order of document 01's figures; unused ones are 0.
-use Rattle.std.specs.Prelude.{ℕ, ◌≡◌, List, [], ◌∷◌}
+use Rattle.std.specs.Prelude.{ℕ, ◌≡◌, List, [], ◌∷◌, Result}
+use Rattle.graph.specs.declared.refusal.Refusal.{Refusal}
+use Rattle.ffi_planner.specs.declared.Figures.{Figures as Shown}
 use Rattle.search.specs.declared.Answer.{Answer}
 use Rattle.search.specs.Call.{Memory, Call}
 use Rattle.search.specs.Outcome.{Ending, route, no_route, unfinished, refused, Figures, figures, answer}
@@ -25,8 +27,12 @@ eight f =
     ∷ f.bound
     ∷ []
 
-unfoldable pub answer_figures : Answer → List ℕ
+unfoldable pub answer_figures : Result Answer Refusal → List ℕ
 answer_figures a = eight (figures a)
+
+-- the figures of an answer or a refusal
+abbrev pub Shows : Result Answer Refusal → Shown → Type 0
+Shows a f = f.0 ≡ answer_figures a
 
 -- the figures handed over, and m is lent memory then: the planner call's own promise
 pub record Exported (c : Call) (figs : List ℕ) (m : Memory) : Type 0 where

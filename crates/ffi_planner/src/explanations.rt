@@ -4,28 +4,35 @@ ghost use Rattle.planner.specs.Plan.{memory_of, call_of};
 ghost use Rattle.explanation.specs.Explained.{inquiry_of};
 ghost use Rattle.job.specs.Explained.{explain_text};
 ghost use Rattle.job.specs.Texts.{Texts};
-ghost use Rattle.ffi_planner.specs.Explanations.{explanation_figures, ExportedReason};
+ghost use Rattle.ffi_planner.specs.Explanations.{ShowsReason, ExportedReason};
 
+use crate::Figures;
+use admission::Call;
 use search::Explanation;
 
-// The figures of an explanation: those of the call's answer, then how many vertices and edges are listed.
-fn of_explanation(explanation: Explanation) -> [u64; 10]
-    ensures { result ≡ explanation_figures explanation }
-{
-    let answer = explanation.answer;
-    let f = crate::of_answer(answer);
-    [
-        f[0],
-        f[1],
-        f[2],
-        f[3],
-        f[4],
-        f[5],
-        f[6],
-        f[7],
-        explanation.vertices as u64,
-        explanation.edges as u64,
-    ]
+// An explanation as ten figures, those of the call's answer, then how many vertices and edges are listed.
+#[derive(Clone, Copy)]
+pub struct ReasonFigures(pub [u64; 10]);
+
+impl From<Explanation> for ReasonFigures {
+    ghost from_gives = { ShowsReason };
+
+    #[tactic(auto, unfolding(crate::specs::Explanations::explanation_figures, crate::specs::Calls::answer_figures, crate::specs::Calls::eight))]
+    fn from(explanation: Explanation) -> ReasonFigures {
+        let Figures(f) = Figures::from(explanation.answer);
+        ReasonFigures([
+            f[0],
+            f[1],
+            f[2],
+            f[3],
+            f[4],
+            f[5],
+            f[6],
+            f[7],
+            u64::from(explanation.vertices),
+            u64::from(explanation.edges),
+        ])
+    }
 }
 
 // A planner call with the reason for "no route".
@@ -51,7 +58,7 @@ pub extern "C" fn secondcoop_explain<'a>(
 )
     ensures { ExportedReason (inquiry_of (call_of bytes.now start goal barred anchor.now guides.now guide_count schedule.now house.now budget (memory_of route.old log.old work.old wide.old)) places.old lanes.old) figures.new (memory_of route.new log.new work.new wide.new) places.new lanes.new }
 {
-    let explanation = explanation::explain(
+    let call = Call {
         bytes,
         start,
         goal,
@@ -60,16 +67,12 @@ pub extern "C" fn secondcoop_explain<'a>(
         guides,
         guide_count,
         schedule,
-        house,
+        default_schedule: house,
         budget,
-        route,
-        log,
-        work,
-        wide,
-        places,
-        lanes,
-    );
-    *figures = of_explanation(explanation);
+    };
+    let explanation = explanation::explain(&call, route, log, work, wide, places, lanes);
+    let ReasonFigures(shown) = ReasonFigures::from(explanation);
+    *figures = shown;
 }
 
 // The lines of a job's explanation.

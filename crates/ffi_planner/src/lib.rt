@@ -8,30 +8,39 @@ ghost use Rattle.std.specs.Prelude.{◌≡◌};
 ghost use Rattle.planner.specs.Plan.{memory_of, call_of};
 ghost use Rattle.job.specs.Texts.{Prints};
 ghost use Rattle.schedule.specs.DefaultSchedule.{initial, loading};
-ghost use Rattle.ffi_planner.specs.Calls.{answer_figures, Exported};
+ghost use Rattle.ffi_planner.specs.Calls.{Shows, Exported};
 ghost use Rattle.ffi_planner.specs.House.{house_of, LoadedTo};
 
+use admission::Call;
+use graph::refusal::Refusal;
 use schedule::default_schedule::DefaultSchedule;
 use search::Answer;
 
-// The figures of a planner call's answer.
-fn of_answer(answer: Answer) -> [u64; 8]
-    ensures { result ≡ answer_figures answer }
-{
-    match answer {
-        Answer::Route(s) => [
-            0,
-            0,
-            0,
-            s.cost,
-            s.length as u64,
-            s.rounds as u64,
-            s.expansions as u64,
-            s.bound as u64,
-        ],
-        Answer::NoRoute(turns) => [1, 0, 0, 0, 0, 0, turns as u64, 0],
-        Answer::Unfinished(turns) => [2, 0, 0, 0, 0, 0, turns as u64, 0],
-        Answer::Refused(n, p) => [3, n as u64, p as u64, 0, 0, 0, 0, 0],
+// A planner call's answer as eight figures, the ending, a refusal's number and position, then cost, length, rounds, turns and
+// bound.
+#[derive(Clone, Copy)]
+pub struct Figures(pub [u64; 8]);
+
+impl From<Result<Answer, Refusal>> for Figures {
+    ghost from_gives = { Shows };
+
+    #[tactic(auto, unfolding(crate::specs::Calls::answer_figures, crate::specs::Calls::eight, crate::specs::Calls::ending_number, search::specs::Outcome::figures))]
+    fn from(answer: Result<Answer, Refusal>) -> Figures {
+        Figures(match answer {
+            Ok(Answer::Route(s)) => [
+                0,
+                0,
+                0,
+                s.cost,
+                u64::from(s.length),
+                u64::from(s.rounds),
+                u64::from(s.expansions),
+                u64::from(s.bound),
+            ],
+            Ok(Answer::NoRoute(turns)) => [1, 0, 0, 0, 0, 0, u64::from(turns), 0],
+            Ok(Answer::Unfinished(turns)) => [2, 0, 0, 0, 0, 0, u64::from(turns), 0],
+            Err(Refusal { cause, at }) => [3, u64::from(cause.number()), at as u64, 0, 0, 0, 0, 0],
+        })
     }
 }
 
@@ -60,11 +69,10 @@ pub extern "C" fn secondcoop_load_house(
         numbers: previous,
         count: *count,
     };
-    let loaded = house.load(sheet);
-    if loaded.accepted {
-        let in_force = loaded.schedule.numbers;
+    if let Ok(loaded) = house.load(sheet) {
+        let in_force = loaded.numbers;
         *numbers = in_force;
-        *count = loaded.schedule.count;
+        *count = loaded.count;
         return 0;
     }
     10
@@ -91,7 +99,7 @@ pub extern "C" fn secondcoop_plan<'a>(
 )
     ensures { Exported (call_of bytes.now start goal barred anchor.now guides.now guide_count schedule.now house.now budget (memory_of route.old log.old work.old wide.old)) figures.new (memory_of route.new log.new work.new wide.new) }
 {
-    let answer = planner::plan(
+    let call = Call {
         bytes,
         start,
         goal,
@@ -100,14 +108,11 @@ pub extern "C" fn secondcoop_plan<'a>(
         guides,
         guide_count,
         schedule,
-        house,
+        default_schedule: house,
         budget,
-        route,
-        log,
-        work,
-        wide,
-    );
-    *figures = of_answer(answer);
+    };
+    let Figures(shown) = Figures::from(planner::plan(&call, route, log, work, wide));
+    *figures = shown;
 }
 
 // The text that the bench program prints for a job.

@@ -5,27 +5,45 @@ ghost use Rattle.std.specs.Prelude.{◌≡◌};
 ghost use Rattle.graph.specs.Plan.{decode, sizes};
 ghost use Rattle.graph.specs.Lists.{tail_of, head_of, cost_of, class_of, read_answer, list_after};
 ghost use Rattle.graph.specs.Lists as lists;
-ghost use Rattle.ffi_plans.specs.Figures.{plan_figures, count_figures};
+ghost use Rattle.graph.specs.Refusal.{number_of};
+ghost use Rattle.ffi_numbers.specs.Figures.{figures};
+ghost use Rattle.ffi_plans.specs.Figures.{plan_figures, count_figures, ShowsPlan, ShowsCount};
 
-use graph::{PlanRead, PlanWritten};
+use graph::Size;
+use graph::refusal::Refusal;
 
-// The figures of a plan that was checked or read.
-fn of_plan(read: PlanRead) -> [u64; 4]
-    ensures { result ≡ plan_figures read }
+// An answer as four figures, refusal number, position, first and second value. A type of this crate's own, as the like one of
+// `ffi_numbers` is of that: `From` is for a crate's own types.
+#[derive(Clone, Copy)]
+pub struct Figures(pub [u64; 4]);
+
+// The figures of a refusal.
+fn refused(refusal: Refusal) -> Figures
+    ensures { result.0 ≡ figures (number_of refusal.cause) refusal.at 0 0 }
 {
-    match read {
-        PlanRead::Sizes(vertices, edges) => [0, 0, vertices as u64, edges as u64],
-        PlanRead::Refused(n, p) => [n as u64, p as u64, 0, 0],
+    let Refusal { cause, at } = refusal;
+    Figures([u64::from(cause.number()), at as u64, 0, 0])
+}
+
+impl From<Result<Size, Refusal>> for Figures {
+    ghost from_gives = { ShowsPlan };
+
+    fn from(read: Result<Size, Refusal>) -> Figures {
+        match read {
+            Ok(Size { vertices, edges }) => Figures([0, 0, u64::from(vertices), u64::from(edges)]),
+            Err(refusal) => refused(refusal),
+        }
     }
 }
 
-// The figures of a plan that was written.
-fn of_count(written: PlanWritten) -> [u64; 4]
-    ensures { result ≡ count_figures written }
-{
-    match written {
-        PlanWritten::Count(count) => [0, 0, count as u64, 0],
-        PlanWritten::Refused(n, p) => [n as u64, p as u64, 0, 0],
+impl From<Result<usize, Refusal>> for Figures {
+    ghost from_gives = { ShowsCount };
+
+    fn from(written: Result<usize, Refusal>) -> Figures {
+        match written {
+            Ok(count) => Figures([0, 0, count as u64, 0]),
+            Err(refusal) => refused(refusal),
+        }
     }
 }
 
@@ -34,7 +52,8 @@ fn of_count(written: PlanWritten) -> [u64; 4]
 pub extern "C" fn secondcoop_check_plan(bytes: &[u8], figures: &mut [u64; 4])
     ensures { figures.new ≡ plan_figures (sizes (decode bytes.now)) }
 {
-    *figures = of_plan(plan_check::check(bytes));
+    let Figures(shown) = Figures::from(plan_check::check(bytes));
+    *figures = shown;
 }
 
 // A plan read into four lists.
@@ -53,7 +72,9 @@ pub extern "C" fn secondcoop_read_plan(
     ensures costs_after { costs.new ≡ list_after cost_of bytes.now costs.old (read_answer bytes.now tails.old heads.old costs.old classes.old) }
     ensures classes_after { classes.new ≡ list_after class_of bytes.now classes.old (read_answer bytes.now tails.old heads.old costs.old classes.old) }
 {
-    *figures = of_plan(plan_reader::read(bytes, tails, heads, costs, classes));
+    let read = plan_reader::read(bytes, tails, heads, costs, classes);
+    let Figures(shown) = Figures::from(read);
+    *figures = shown;
 }
 
 // A plan written from V and four lists.
@@ -70,5 +91,7 @@ pub extern "C" fn secondcoop_write_plan(
     ensures figures_after { figures.new ≡ count_figures (lists.write_answer vertices tails.now heads.now costs.now classes.now out.old) }
     ensures out_after { out.new ≡ lists.out_after vertices tails.now heads.now costs.now classes.now out.old (lists.write_answer vertices tails.now heads.now costs.now classes.now out.old) }
 {
-    *figures = of_count(plan_writer::write(vertices, tails, heads, costs, classes, out));
+    let written = plan_writer::write(vertices, tails, heads, costs, classes, out);
+    let Figures(shown) = Figures::from(written);
+    *figures = shown;
 }

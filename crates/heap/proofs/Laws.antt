@@ -1,15 +1,20 @@
 -- The steps of the code, at its own counts: what each branch gives is what the definition gives.
-use Prim.Native.Nat.{ℕ, zero, suc, ◌+◌, ◌*◌, ◌-◌, ◌<◌, ◌≤◌}
-use mathlib.Core.Path.{◌≡◌, refl, sym, ap, ◌∙◌}
+use Prim.Native.Nat.{ℕ, zero, suc, ◌+◌, ◌*◌, ◌-◌, ◌%◌, ◌<◌, ◌≤◌}
+use mathlib.Core.Path.{◌≡◌, refl, sym, ap, ◌∙◌, subst}
 use mathlib.Core.Logic.{◌≢◌}
-use mathlib.Core.Bool.{Bool, true, false, cond}
-use mathlib.Core.List.{List}
+use mathlib.Core.Bool.{Bool, true, false, cond, not}
+use mathlib.Core.List.{List, ◌++◌}
 use native.Mathlib.Omega.{arith}
 use borrow.Author.Tests.{lt-ltb, le-ltb, le-leb, lt-leb, eq-eqb, ne_eqb}
-use lib.Dec.{ltb, leb}
-use lib.ListN.{get_or, set, length, length-set}
+use lib.Dec.{T, ltb, leb, eqb}
+use mir.Facts.{eqb_yes, eqb_no}
+use Rattle.std.specs.Prelude.{Option, Some, None}
+use Rattle.std.specs.Option.{is_some, unwrap_or}
+use lib.ListN.{get_or, set, length, drop, replicate, length-set}
+use lib.Seq.{get_or-set_same, get_or-set_other}
+use Rattle.std.proofs.lemmas.List.Edits.{fill_more}
 use Rattle.search.proofs.Tools.{cond_ind, same_cases}
-use Rattle.heap.specs.Words.{nowhere, vertex_of, pos_at, entry_at, cleared, put, child_of, lower_of, sunk, above, risen, cheaper_at, placed, removed, updated, counted, levels}
+use Rattle.heap.specs.Words.{word, nowhere, vertex_of, pos_at, entry_at, cleared, put, position_at, child_of, lower_of, sunk, above, risen, cheaper_at, placed, removed, updated, counted, levels}
 use Rattle.heap.specs.Heap.{Below, Safe, Updatable, Lower, Lowers}
 use Rattle.heap.proofs.Sifting.{reaches, Dearer, cheaper_yes}
 use Rattle.heap.proofs.Updating.{deep}
@@ -110,48 +115,88 @@ module _ (v k n j e : ℕ) (w : List ℕ) where
 
 -- ---- what is asked stays
 
-module _ (v n : ℕ) (w : List ℕ) (y : Safe v n w) (j e : ℕ) (l : j < v) (small : vertex_of e < v) where
-  safe_put : Safe v n (put v w j e)
-  safe_put =
+-- the vertex of an entry is in its low word
+vertex_low : (v : ℕ) (w : List ℕ) (k : ℕ) → vertex_of (entry_at v w k) ≡ get_or w (v + 2 * k) 0 % 4096
+unfolding entry_at
+vertex_low v w k = omega arith
+
+module _ (v n : ℕ) (w : List ℕ) (y : Safe v n w) where
+  -- a word set, one with a vertex below v where it is a low one
+  safe_word : (i x : ℕ) → i < length w → ((k : ℕ) → i ≡ v + 2 * k → x % 4096 < v) → Safe v n (set w i x)
+  safe_word i x r f =
       record {
         few = y.few;
         fit = y.fit;
-        room = rw (length_put v w j e) y.room;
-        each = λ k m. same_cases k j (λ f. rw (f, put_entry v w j e small (omega (arith, y.room))) small)
-            (λ ne. rw (put_others v w j e small (omega (arith, y.room)) k ne) (y.each k m));
+        room = simp length-set y.room;
+        each = λ k m. rw (vertex_low v (set w i x) k) (same_cases i (v + 2 * k)
+            (λ e. rw (← e, get_or-set_same w i x 0 r) (f k e))
+            (λ ne. rw (get_or-set_other w i (v + 2 * k) x 0 (λ g. ne (sym g)), ← vertex_low v w k) (y.each k m)));
       }
+
+  pub safe_low : (j e : ℕ) → vertex_of e < v → v + 2 * j < length w → Safe v n (set w (v + 2 * j) (e % word))
+  safe_low j e l r = safe_word _ _ r (λ k f. omega arith)
+
+  pub safe_high : (j x : ℕ) → v + 2 * j + 1 < length w → Safe v n (set w (v + 2 * j + 1) x)
+  safe_high j x r = safe_word _ _ r (λ k f. absurd (omega arith))
+
+  pub safe_position : (s x : ℕ) → s < v → Safe v n (set w s x)
+  safe_position s x l = safe_word _ _ (omega (arith, y.room)) (λ k f. absurd (omega arith))
 
 pub safe_less : (v n m : ℕ) (w : List ℕ) → Safe v n w → m ≤ n → Safe v m w
 safe_less v n m w y l = record { few = y.few; fit = omega (arith, y.fit); room = y.room; each = λ k h. y.each k (omega arith) }
 
-pub safe_drop : (v n : ℕ) (w : List ℕ) → Safe v n w → (s : ℕ) → s < v → Safe v n (set w s nowhere)
-safe_drop v n w y s l =
+-- every entry but that of slot j has its vertex below v
+record SafeBut (v n j : ℕ) (w : List ℕ) : Type 0 where
+  few : v ≤ 4096
+  fit : n ≤ v
+  room : 3 * v ≤ length w
+  each : (k : ℕ) → k < n → k ≢ j → vertex_of (entry_at v w k) < v
+
+safe_put : (v n j e : ℕ) (w : List ℕ) → SafeBut v n j w → j < v → vertex_of e < v → Safe v n (put v w j e)
+safe_put v n j e w y l small =
     record {
       few = y.few;
       fit = y.fit;
-      room = simp length-set y.room;
-      each = λ k h. rw (drop_entry v w s l (omega (arith, y.room)) k) (y.each k h);
+      room = rw (length_put v w j e) y.room;
+      each = λ k m. same_cases k j (λ f. rw (f, put_entry v w j e small (omega (arith, y.room))) small)
+          (λ ne. rw (put_others v w j e small (omega (arith, y.room)) k ne) (y.each k m ne));
     }
+
+but_any : (v n j : ℕ) (w : List ℕ) → Safe v n w → SafeBut v n j w
+but_any v n j w y = record { few = y.few; fit = y.fit; room = y.room; each = λ k l ne. y.each k l }
+
+module _ (v n e : ℕ) (small : vertex_of e < v) where
+  safe_risen : (k j : ℕ) (w : List ℕ) → SafeBut v n j w → j < n → Safe v n (risen v k j e w)
+  unfolding risen
+  safe_risen zero j w y l = safe_put v n j e w y (omega (arith, y.fit)) small
+  safe_risen (suc k) j w y l =
+      cond_ind (λ (x : List ℕ). Safe v n x) (cheaper_at v w j e)
+      (λ t.
+      let d = (cheaper_yes v j e w t).below in
+      safe_risen k (above j) _
+      (but_any v n (above j) _ (safe_put v n j (entry_at v w (above j)) w y (omega (arith, y.fit)) (y.each (above j) (omega (arith, d.low)) (λ f. omega (arith, d.low)))))
+      (omega (arith, d.low)))
+      (λ t. safe_put v n j e w y (omega (arith, y.fit)) small)
+
+-- an entry more
+pub safe_comes : (v n e : ℕ) (w : List ℕ) → Safe v n w → n < v → vertex_of e < v → Safe v (n + 1) (risen v levels n e w)
+safe_comes v n e w y l small =
+    safe_risen v (n + 1) e small levels n w
+    (record { few = y.few; fit = omega arith; room = y.room; each = λ k m ne. y.each k (omega arith) }) (omega arith)
 
 -- ---- one level down
 
-module _ (v k n j e : ℕ) (w : List ℕ) (y : Safe v n w) (c : ℕ) (is : c ≡ lower_of v k n j e w) (l : Lower k n j c) where
+module _ (v k n j e : ℕ) (w : List ℕ) (c : ℕ) (is : c ≡ lower_of v k n j e w) (l : Lower k n j c) where
   pub lowers_stays : c ≡ j → Lowers v k n j e w w c
-  lowers_stays h = record { safe = y; slot = l; stays = sunk_stays v k n j e w c is; goes = λ f. absurd (f h) }
+  lowers_stays h = record { slot = l; stays = sunk_stays v k n j e w c is; goes = λ f. absurd (f h) }
 
-  pub lowers_goes : c ≢ j → j < n → (x : ℕ) → x ≡ entry_at v w c → (w' : List ℕ) → w' ≡ put v w j x → Lowers v k n j e w w' c
-  lowers_goes h lj x at w' q =
+  pub lowers_goes : c ≢ j → (x : ℕ) → x ≡ entry_at v w c → (w' : List ℕ) → w' ≡ put v w j x → Lowers v k n j e w w' c
+  lowers_goes h x at w' q =
       record {
-        safe = rw q (safe_put v n w y j x (omega (arith, y.fit)) (rw at (y.each c l.less)));
         slot = l;
         stays = λ f. absurd (h f);
         goes = λ f. rw (q, at) (sunk_goes v k n j e w c is h);
       }
-
--- and one more
-pub lowers_twice : (v k n j e : ℕ) (w w₁ : List ℕ) (c : ℕ) → Lowers v k n j e w w₁ c → c ≢ j
-    → (w₂ : List ℕ) (d : ℕ) → Lowers v (k - 1) n c e w₁ w₂ d → d ≢ c → sunk v (k - 2) n d e w₂ ≡ sunk v k n j e w
-lowers_twice v k n j e w w₁ c x nc w₂ d y nd = let g : k - 2 ≡ k - 1 - 1 = omega arith in rw g (y.goes nd ∙ x.goes nc)
 
 -- ---- up
 
@@ -160,12 +205,10 @@ pub record Rising (v e j₀ : ℕ) (w₀ w : List ℕ) (j : ℕ) : Type 0 where
   pub left : ℕ
   pub near : j < reaches left
   pub inside : j < v
-  pub safe : Safe v j w
-  pub same : length w ≡ length w₀
   pub rest : risen v left j e w ≡ risen v levels j₀ e w₀
 
-pub rising_none : (v e j : ℕ) (w : List ℕ) → Safe v j w → j < v → Rising v e j w w j
-rising_none v e j w y l = record { left = levels; near = deep j (omega (arith, y.few)); inside = l; safe = y; same = refl; rest = refl }
+pub rising_none : (v e j : ℕ) (w : List ℕ) → v ≤ 4096 → j < v → Rising v e j w w j
+rising_none v e j w few l = record { left = levels; near = deep j (omega arith); inside = l; rest = refl }
 
 module _ (v e j₀ : ℕ) (w₀ w : List ℕ) (j : ℕ) (y : Rising v e j₀ w₀ w j) (b : Bool) (is : b ≡ cheaper_at v w j e) where
   -- the entry above is dearer, and moves down
@@ -187,8 +230,6 @@ module _ (v e j₀ : ℕ) (w₀ w : List ℕ) (j : ℕ) (y : Rising v e j₀ w�
               left = k;
               near = omega (arith, d.low);
               inside = omega (arith, y.inside);
-              safe = rw q (safe_less v j (above j) _ (safe_put v j w y.safe j _ y.inside (y.safe.each (above j) (omega (arith, d.low)))) (omega arith));
-              same = ap length q ∙ length_put v w j (entry_at v w (above j)) ∙ y.same;
               rest = rw q (rw (sym is ∙ h) at r);
             }
 
@@ -225,48 +266,56 @@ module _ (v m j s : ℕ) (w : List ℕ) where
 
 -- ---- a vertex whose entry changes
 
-module _ (v n s e : ℕ) (on : Bool) (w : List ℕ) where
+-- where it stands, if it is inside
+module _ (w : List ℕ) (s : ℕ) where
+  pub stood : (p : Option ℕ) (j : ℕ) → p ≡ position_at w s → p ≡ Some j → (pos_at w s ≢ nowhere) × (j ≡ pos_at w s)
+  unfolding position_at
+  stood p j is f = go (eqb (pos_at w s) nowhere) refl (sym is ∙ f)
+    where
+      go : (b : Bool) → eqb (pos_at w s) nowhere ≡ b → cond b None (Some (pos_at w s)) ≡ Some j → (pos_at w s ≢ nowhere) × (j ≡ pos_at w s)
+      go true q g = absurd (subst (λ (o : Option ℕ). T (not (is_some o))) g tt)
+      go false q g = ((λ k. eqb_no (rw q tt) k), sym (ap (λ (o : Option ℕ). unwrap_or o 0) g))
+
+  pub stood_out : (p : Option ℕ) → p ≡ position_at w s → p ≡ None → pos_at w s ≡ nowhere
+  unfolding position_at
+  stood_out p is f = go (eqb (pos_at w s) nowhere) refl (sym is ∙ f)
+    where
+      go : (b : Bool) → eqb (pos_at w s) nowhere ≡ b → cond b None (Some (pos_at w s)) ≡ None → pos_at w s ≡ nowhere
+      go true q g = eqb_yes (rw q tt)
+      go false q g = absurd (subst (λ (o : Option ℕ). T (is_some o)) g tt)
+
+module _ (v n s : ℕ) (o : Option ℕ) (w : List ℕ) where
   -- what the four cases give
   abbrev Done : List ℕ → ℕ → Type 0
-  Done x k = (x ≡ updated v n s on e w) × (k ≡ counted n s on w)
+  Done x k = (x ≡ updated v n s (is_some o) (unwrap_or o 0) w) × (k ≡ counted n s (is_some o) w)
 
-  pub comes : on ≡ true → get_or w s 0 ≡ nowhere → Done (risen v levels n e w) (n + 1)
-  unfolding updated counted pos_at
-  comes h k = rw (h, eq-eqb _ _ k) (refl, refl)
+  pub comes : (e : ℕ) → o ≡ Some e → (p : Option ℕ) → p ≡ position_at w s → p ≡ None → Done (risen v levels n e w) (n + 1)
+  unfolding updated counted
+  comes e h p is f = rw (h, eq-eqb _ _ (stood_out w s p is f)) (refl, refl)
 
-  pub changes : on ≡ true → get_or w s 0 ≢ nowhere → Done (risen v levels (get_or w s 0) e w) n
-  unfolding updated counted pos_at
-  changes h k = rw (h, ne_eqb _ _ k) (refl, refl)
+  pub changes : (e : ℕ) → o ≡ Some e → (p : Option ℕ) (j : ℕ) → p ≡ position_at w s → p ≡ Some j → Done (risen v levels j e w) n
+  unfolding updated counted
+  changes e h p j is f = let q = stood w s p j is f in rw (h, q.1, ne_eqb _ _ q.0) (refl, refl)
 
-  pub stays_out : on ≡ false → get_or w s 0 ≡ nowhere → Done w n
-  unfolding updated counted pos_at
-  stays_out h k = rw (h, eq-eqb _ _ k) (refl, refl)
+  pub stays_out : o ≡ None → (p : Option ℕ) → p ≡ position_at w s → p ≡ None → Done w n
+  unfolding updated counted
+  stays_out h p is f = rw (h, eq-eqb _ _ (stood_out w s p is f)) (refl, refl)
 
-  pub goes : on ≡ false → get_or w s 0 ≢ nowhere → Done (removed v (n - 1) (get_or w s 0) s w) (n - 1)
-  unfolding updated counted pos_at
-  goes h k = rw (h, ne_eqb _ _ k) (refl, refl)
+  pub goes : o ≡ None → (p : Option ℕ) (j : ℕ) → p ≡ position_at w s → p ≡ Some j → Done (removed v (n - 1) j s w) (n - 1)
+  unfolding updated counted
+  goes h p j is f = let q = stood w s p j is f in rw (h, q.1, ne_eqb _ _ q.0) (refl, refl)
 
-  module _ (y : Updatable v n s on e w) where
-    pub stands_in : get_or w s 0 ≢ nowhere → get_or w s 0 < n
-    unfolding pos_at
-    stands_in = y.stands
-
-    pub small_of : on ≡ true → vertex_of e < v
-    small_of h = y.of (rw h tt)
-
-    pub room_more : on ≡ true → get_or w s 0 ≡ nowhere → n < v
-    unfolding pos_at
-    room_more h = y.more (rw h tt)
+  pub small_of : Updatable v n s (is_some o) (unwrap_or o 0) w → (e : ℕ) → o ≡ Some e → vertex_of e < v
+  small_of y e h = rw h at (y.of (rw h tt))
 
 -- ---- the positions cleared
 
-pub cleared_none : (w : List ℕ) → w ≡ cleared 0 w
+filled : (v : ℕ) (w : List ℕ) → v ≤ length w → replicate v nowhere ++ drop v w ≡ cleared v w
 unfolding cleared
-cleared_none w = refl
+filled zero w l = refl
+filled (suc v) w l =
+    let g : suc v ≡ v + 1 = omega arith in
+    ap (λ n. replicate n nowhere ++ drop n w) g ∙ sym (fill_more v nowhere w (omega arith)) ∙ ap (λ x. set x v nowhere) (filled v w (omega arith))
 
-pub cleared_more : (s : ℕ) (w w₀ : List ℕ) → w ≡ cleared s w₀ → set w s nowhere ≡ cleared (s + 1) w₀
-unfolding cleared
-cleared_more s w w₀ e = let g : s + 1 ≡ suc s = omega arith in rw (g, e)
-
-pub cleared_all : (s v : ℕ) (w w₀ : List ℕ) → s ≤ v → v ≤ s → w ≡ cleared s w₀ → w ≡ cleared v w₀
-cleared_all s v w w₀ l m e = let g : v ≡ s = omega arith in rw g e
+pub cleared_fill : (v m : ℕ) (x w : List ℕ) → x ≡ replicate m nowhere → m ≡ v → v ≤ length w → x ++ drop v w ≡ cleared v w
+cleared_fill v m x w e f l = rw (e, f) (filled v w l)

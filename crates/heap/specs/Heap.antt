@@ -60,7 +60,6 @@ pub record Safe (v n : ℕ) (w : List ℕ) : Type 0 where
 
 -- what the code asks where vertex s is to have the entry e, or to go
 pub record Updatable (v n s : ℕ) (on : Bool) (e : ℕ) (w : List ℕ) : Type 0 where
-  pub safe : Safe v n w
   pub small : s < v
   pub stands : pos_at w s ≢ nowhere → pos_at w s < n
   pub of : T on → vertex_of e < v
@@ -73,7 +72,6 @@ pub record Lower (k n j c : ℕ) : Type 0 where
 
 -- with the entry of slot c moved up to slot j, or c the same: what is left to do for e to stand at j or below
 pub record Lowers (v k n j e : ℕ) (w w' : List ℕ) (c : ℕ) : Type 0 where
-  pub safe : Safe v n w'
   pub slot : Lower k n j c
   pub stays : c ≡ j → put v w' j e ≡ sunk v k n j e w
   pub goes : c ≢ j → sunk v (k - 1) n c e w' ≡ sunk v k n j e w

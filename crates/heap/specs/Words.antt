@@ -1,5 +1,5 @@
 -- A heap's words, v positions and v entries of two words each, and what is done with them: for contracts inside the planner call, nothing that a reader must believe.
-use Rattle.std.specs.Prelude.{ℕ, zero, suc, ◌+◌, ◌-◌, ◌*◌, ◌/◌, ◌%◌, Bool, true, false, cond, List, get_or, set, ltb, leb, eqb}
+use Rattle.std.specs.Prelude.{ℕ, zero, suc, ◌+◌, ◌-◌, ◌*◌, ◌/◌, ◌%◌, Bool, true, false, cond, Option, Some, None, List, get_or, set, ltb, leb, eqb}
 
 -- the position of a vertex that the heap does not hold
 abbrev pub nowhere : ℕ
@@ -19,6 +19,10 @@ vertex_of e = e % 4096
 -- the position of vertex s
 unfoldable pub pos_at : List ℕ → ℕ → ℕ
 pos_at w s = get_or w s 0
+
+-- the same, if the heap holds it
+unfoldable pub position_at : List ℕ → ℕ → Option ℕ
+position_at w s = cond (eqb (pos_at w s) nowhere) None (Some (pos_at w s))
 
 -- entry j
 unfoldable pub entry_at : ℕ → List ℕ → ℕ → ℕ

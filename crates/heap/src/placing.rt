@@ -1,30 +1,38 @@
-// An entry placed where the order wants it, and one removed.
-ghost use Rattle.std.specs.Prelude.{◌≡◌, ◌+◌, ◌≤◌, ◌<◌};
+// An entry placed where the order wants it, and one removed. That an entry's place is below the count, and its vertex below
+// V, is asked here as below: it is said of a number and a heap, and no type of one of them can hold it.
+ghost use Rattle.std.specs.Prelude.{◌≡◌, ◌-◌, ◌<◌};
 ghost use Rattle.heap.specs.Words.{vertex_of, placed, removed};
-ghost use Rattle.heap.specs.Heap.{Safe};
+ghost use Rattle.heap.specs.Methods.{Same, Kept};
 
-use crate::{sift_down, sift_up, words};
+use crate::{Heap, words};
 
-// e stands at entry j, or where the order wants it.
-pub fn place(w: &mut [u32], v: u32, n: u32, j: u32, e: u64)
-    requires { Safe v n w.old × (j < n) × (vertex_of e < v) }
-    ensures { w.new ≡ placed v n j e w.old }
-{
-    if sift_up::cheaper(w, v, j, e) {
-        sift_up::rise(w, v, j, e);
-    } else {
-        sift_down::sink(words::LEVELS, w, v, n, j, e);
+impl Heap<'_> {
+    // e stands at entry j, or where the order wants it.
+    pub(crate) fn place(&mut self, j: u32, e: u64)
+        requires { (j < self.old.count) × (vertex_of e < self.old.vertices) }
+        ensures same { Same self.old self.new }
+        ensures words { self.new.words.now ≡ placed self.old.vertices self.old.count j e self.old.words.now }
+    {
+        if self.cheaper(j, e) {
+            self.rise(j, e);
+        } else {
+            self.sink(words::LEVELS, j, e);
+        }
     }
-}
 
-// Entry j, of vertex s, goes, and m are left: the last one takes its place, if it is another one.
-pub fn remove(w: &mut [u32], v: u32, m: u32, j: u32, s: u32)
-    requires { Safe v (m + 1) w.old × (j ≤ m) × (s < v) }
-    ensures { w.new ≡ removed v m j s w.old }
-{
-    w[s as usize] = words::NOWHERE;
-    if j != m {
-        let e = crate::entry(w, v, m);
-        place(w, v, m, j, e);
+    // Entry j, of vertex s, goes: the last one takes its place, if it is another one.
+    pub(crate) fn remove(&mut self, j: u32, s: u32)
+        requires { (j < self.old.count) × (s < self.old.vertices) }
+        ensures kept { Kept self.old self.new }
+        ensures words { self.new.words.now ≡ removed self.old.vertices (self.old.count - 1) j s self.old.words.now }
+        ensures count { self.new.count ≡ self.old.count - 1 }
+    {
+        let last = self.count - 1;
+        self.words[s as usize] = words::NOWHERE;
+        self.count = last;
+        if j != last {
+            let e = self.entry(last);
+            self.place(j, e);
+        }
     }
 }

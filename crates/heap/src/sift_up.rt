@@ -1,41 +1,43 @@
 // Sifting up: an entry that is cheaper than the one above it moves up.
-ghost use Rattle.std.specs.Prelude.{◌≡◌, ◌<◌};
+ghost use Rattle.std.specs.Prelude.{◌≡◌, ◌≤◌, ◌<◌};
 ghost use Rattle.heap.specs.Words.{vertex_of, entry_at, put, above, cheaper_at, levels, risen};
-ghost use Rattle.heap.specs.Heap.{Safe};
+ghost use Rattle.heap.specs.Methods.{Same};
 
-use crate::words;
+use crate::Heap;
 
-// Whether e is cheaper than the entry above entry j.
-pub fn cheaper(w: &[u32], v: u32, j: u32, e: u64) -> bool
-    requires { Safe v j w.now }
-    ensures { result ≡ cheaper_at v w.now j e }
-{
-    if j == 0 {
-        return false;
+impl Heap<'_> {
+    // Whether e is cheaper than the entry above entry j.
+    pub(crate) fn cheaper(&self, j: u32, e: u64) -> bool
+        requires { j ≤ self.now.count }
+        ensures { result ≡ cheaper_at self.now.vertices self.now.words.now j e }
+    {
+        j != 0 && e < self.entry((j - 1) / 2)
     }
-    let x = crate::entry(w, v, (j - 1) / 2);
-    e < x
-}
 
-// The entry above entry j moves down to j; the slot that it leaves.
-fn move_down(w: &mut [u32], v: u32, j: u32) -> u32
-    requires { Safe v j w.old × (0 < j) × (j < v) }
-    ensures { (w.new ≡ put v w.old j (entry_at v w.old (above j))) × (result ≡ above j) }
-{
-    let above = (j - 1) / 2;
-    let x = crate::entry(w, v, above);
-    words::put(w, v, j, x);
-    above
-}
-
-// e stands at entry i, or above: an entry that is dearer moves down.
-pub fn rise(w: &mut [u32], v: u32, i: u32, e: u64)
-    requires { Safe v i w.old × (i < v) × (vertex_of e < v) }
-    ensures { w.new ≡ risen v levels i e w.old }
-{
-    let mut j = i;
-    while cheaper(w, v, j, e) {
-        j = move_down(w, v, j);
+    // The entry above entry j moves down to j; the slot that it leaves.
+    fn move_down(&mut self, j: u32) -> u32
+        requires { (j ≤ self.old.count) × (0 < j) × (j < self.old.vertices) }
+        ensures same { Same self.old self.new }
+        ensures words { self.new.words.now ≡ put self.old.vertices self.old.words.now j (entry_at self.old.vertices self.old.words.now (above j)) }
+        ensures slot { result ≡ above j }
+    {
+        let above = (j - 1) / 2;
+        let x = self.entry(above);
+        self.put(j, x);
+        above
     }
-    words::put(w, v, j, e);
+
+    // e stands at entry i, or above: an entry that is dearer moves down.
+    // A `while`, no count by hand: entry by entry to the one above.
+    pub(crate) fn rise(&mut self, i: u32, e: u64)
+        requires { (i ≤ self.old.count) × (i < self.old.vertices) × (vertex_of e < self.old.vertices) }
+        ensures same { Same self.old self.new }
+        ensures words { self.new.words.now ≡ risen self.old.vertices levels i e self.old.words.now }
+    {
+        let mut j = i;
+        while self.cheaper(j, e) {
+            j = self.move_down(j);
+        }
+        self.put(j, e);
+    }
 }

@@ -1,28 +1,35 @@
-// The words of a heap: a word as a longer number, and an entry put into a slot.
+// The words of a heap: an entry read, and one put into a slot.
 ghost use Rattle.std.specs.Prelude.{◌≡◌, ◌+◌, ◌*◌, ◌<◌, length};
-ghost use Rattle.heap.specs.Words.{vertex_of, put};
+ghost use Rattle.heap.specs.Words.{vertex_of, entry_at, put};
+ghost use Rattle.heap.specs.Methods.{Same};
 
-// The position of a vertex that the heap does not hold.
+use crate::Heap;
+
+// The position of a vertex that the heap does not hold: an Option takes two words, and a position has one.
 pub const NOWHERE: u32 = 4294967295;
 
 // As many levels as are below the first of 4,096 entries.
 pub const LEVELS: u32 = 12;
 
-// A word as a longer number.
-pub fn wide(x: u32) -> u64
-    ensures { (result ≡ x) × (result < 4294967296) }
-{
-    x as u64
-}
+impl Heap<'_> {
+    // Entry j.
+    pub(crate) fn entry(&self, j: u32) -> u64
+        requires { self.now.vertices + 2 * j + 1 < length self.now.words.now }
+        ensures { result ≡ entry_at self.now.vertices self.now.words.now j }
+    {
+        crate::entry(self.words, self.vertices, j)
+    }
 
-// Entry j becomes e, and its vertex stands there.
-pub fn put(w: &mut [u32], v: u32, j: u32, e: u64)
-    requires { (v + 2 * j + 1 < length w.old) × (vertex_of e < v) }
-    ensures { w.new ≡ put v w.old j e }
-{
-    let k = (v as usize) + 2 * (j as usize);
-    let s = (e % 4096) as usize;
-    w[k] = (e % 4294967296) as u32;
-    w[k + 1] = (e / 4294967296) as u32;
-    w[s] = j;
+    // Entry j becomes e, and its vertex stands there.
+    pub(crate) fn put(&mut self, j: u32, e: u64)
+        requires { (self.old.vertices + 2 * j + 1 < length self.old.words.now) × (vertex_of e < self.old.vertices) }
+        ensures same { Same self.old self.new }
+        ensures words { self.new.words.now ≡ put self.old.vertices self.old.words.now j e }
+    {
+        let k = (self.vertices as usize) + 2 * (j as usize);
+        let s = (e % 4096) as usize;
+        self.words[k] = (e % 4294967296) as u32;
+        self.words[k + 1] = (e / 4294967296) as u32;
+        self.words[s] = j;
+    }
 }

@@ -7,22 +7,19 @@ use mathlib.Core.List.{List}
 use lib.ListN.{length}
 use lib.Dec.{ltb}
 use borrow.Author.Tests.{ltb-false}
+use Rattle.graph.specs.declared.refusal.Cause.{Cause}
+use Rattle.graph.specs.declared.refusal.Cause.TheVariants as cause
 use Rattle.leb128.specs.Number.{read, job_groups}
-use Rattle.graph.specs.declared.PlanRead.{PlanRead}
-use Rattle.graph.specs.declared.PlanRead.TheVariants as checked
+use Rattle.std.specs.Prelude.{Ok, Err, Some, None}
+use Rattle.leb128.proofs.Result.{err≢ok, ok_parts}
+use Rattle.graph.specs.Refusal.{PlanRead, refusal_of, size_of}
+use Rattle.job.specs.Front.{FrontRead, max_job_rounds, max_job_guides, rounds, ends, front}
+use Rattle.job.specs.Numbers.{NumbersRead, end_of}
 use Rattle.graph.specs.Plan.{decode, sizes}
 use Rattle.graph.proofs.Tests.{or_left, or_right}
 use Rattle.job.specs.declared.Ends.{Ends}
 use Rattle.job.specs.declared.Front.{Front}
-use Rattle.job.specs.declared.NumbersRead.{NumbersRead}
-use Rattle.job.specs.declared.NumbersRead.TheVariants.{Past, Malformed}
-use Rattle.job.specs.declared.FrontRead.{FrontRead}
-use Rattle.job.specs.declared.FrontRead.TheVariants.{Whole}
-use Rattle.job.specs.declared.FrontRead.TheVariants as front_read
-use Rattle.job.specs.declared.JobRead.TheVariants.{Accepted, Refused}
-use Rattle.job.specs.Numbers.{end_of}
-use Rattle.job.specs.Front.{max_job_rounds, max_job_guides, rounds, ends, front}
-use Rattle.job.specs.Reading.{max_job_bytes, max_job_vertices, max_job_edges, plan_of, table_count, after_tables, after_sizes, after_plan, after_front, job_read}
+use Rattle.job.specs.Reading.{JobRead, max_job_bytes, max_job_vertices, max_job_edges, plan_of, table_count, after_tables, after_sizes, after_plan, after_front, job_read}
 use Rattle.job.specs.Asked.{factors_of, tables_of}
 use Rattle.job.proofs.Values.{length_values}
 use Rattle.job.proofs.Following.{whole_following, whole_past, whole_cond}
@@ -39,8 +36,8 @@ pub record Rounds (s : List ℕ) (plan end : ℕ) (f : Front) : Type 0 where
 
 module _ (s : List ℕ) (plan end : ℕ) (f : Front) where
   whole_as :
-      (x : Ends) (r at g tables next : ℕ) → ltb max_job_rounds r ≡ false → end_of (2 * r) s at ≡ Past next → ltb max_job_guides g ≡ false →
-      Whole (record { plan_at = plan; plan_end = end; ends = x; round_count = r; factors_at = at; guide_count = g; tables_at = tables }) ≡ Whole f →
+      (x : Ends) (r at g tables next : ℕ) → ltb max_job_rounds r ≡ false → end_of (2 * r) s at ≡ Some next → ltb max_job_guides g ≡ false →
+      Some (record { plan_at = plan; plan_end = end; ends = x; round_count = r; factors_at = at; guide_count = g; tables_at = tables }) ≡ Some f →
       Rounds s plan end f
   unfolding factors_of
   whole_as x r at g tables next few all less h =
@@ -56,7 +53,7 @@ module _ (s : List ℕ) (plan end : ℕ) (f : Front) where
         schedule = rw (sym er, sym ea) (length_values s next (2 * r) at all);
       }
 
-  rounds_whole : (x : Ends) (at : ℕ) → rounds s plan end x at ≡ Whole f → Rounds s plan end f
+  rounds_whole : (x : Ends) (at : ℕ) → rounds s plan end x at ≡ Some f → Rounds s plan end f
   unfolding rounds
   rounds_whole x at h =
       whole_following f (read job_groups s at) _ h
@@ -66,7 +63,7 @@ module _ (s : List ℕ) (plan end : ℕ) (f : Front) where
       (λ g tables _ h₄. whole_cond f (ltb max_job_guides g) _ h₄
       (λ less h₅. whole_as x r factors g tables next few all less h₅)))))
 
-  ends_whole : ends s plan end ≡ Whole f → Rounds s plan end f
+  ends_whole : ends s plan end ≡ Some f → Rounds s plan end f
   unfolding ends
   ends_whole h =
       whole_following f (read job_groups s end) _ h
@@ -83,7 +80,7 @@ pub record Fits (s : List ℕ) (f : Front) : Type 0 where
   pub guides : f.guide_count ≤ max_job_guides
   pub schedule : length (factors_of s f) ≡ 2 * f.round_count
 
-pub front_fits : (s : List ℕ) (f : Front) → front s ≡ Whole f → Fits s f
+pub front_fits : (s : List ℕ) (f : Front) → front s ≡ Some f → Fits s f
 unfolding front
 front_fits s f h =
     whole_following f (read job_groups s 0) _ h
@@ -110,31 +107,28 @@ pub record Parts (s : List ℕ) (f : Front) (v m : ℕ) : Type 0 where
 -- and its plan passes, with V and M
 pub record Ready (s : List ℕ) (f : Front) (v : ℕ) : Type 0 where
   pub edges : ℕ
-  pub sizes : sizes (decode (plan_of s f)) ≡ checked.Sizes v edges
+  pub sizes : sizes (decode (plan_of s f)) ≡ Ok (size_of v edges)
   pub parts : Parts s f v edges
 
 module _ (s : List ℕ) (f : Front) (v : ℕ) where
-  never : {A : Type 0} (n p : ℕ) → Refused n p ≡ Accepted f v → A
-  never n p h = let z : ◌≡◌ {A = ℕ} 0 1 = cc in absurd (omega arith)
-
   module _ (g : Front) where
-    same_by : (w : ℕ) (b : Bool) → cond b (Refused 14 0) (Accepted g w) ≡ Accepted f v → (g ≡ f) × (w ≡ v)
-    same_by w true h = never 14 0 h
-    same_by w false h = (cc, cc)
+    same_by : (w : ℕ) (b : Bool) → cond {A = JobRead} b (Err (refusal_of cause.Job 0)) (Ok (g, w)) ≡ Ok (f, v) → (g ≡ f) × (w ≡ v)
+    same_by w true h = absurd (err≢ok h)
+    same_by w false h = ok_parts h
 
     -- the tables are there
-    tables_by : (w : ℕ) (r : NumbersRead) → after_tables s g w r ≡ Accepted f v → (g ≡ f) × (w ≡ v) × ((end : ℕ) × (r ≡ Past end))
+    tables_by : (w : ℕ) (r : NumbersRead) → after_tables s g w r ≡ Ok (f, v) → (g ≡ f) × (w ≡ v) × ((end : ℕ) × (r ≡ Some end))
     unfolding after_tables
-    tables_by w (Past end) h = let e : (g ≡ f) × (w ≡ v) = same_by w (ltb end (length s)) h in (e.0, e.1, (end, refl))
-    tables_by w Malformed h = never 14 0 h
+    tables_by w (Some end) h = let e : (g ≡ f) × (w ≡ v) = same_by w (ltb end (length s)) h in (e.0, e.1, (end, refl))
+    tables_by w None h = absurd (err≢ok h)
 
-    module _ (whole : front s ≡ Whole g) where
+    module _ (whole : front s ≡ Some g) where
       -- V and M are small
       sizes_by :
           (w m : ℕ) (b : Bool) → (ltb max_job_vertices w || ltb max_job_edges m) ≡ b →
-          cond b (Refused 14 0) (after_tables s g w (end_of (table_count g w) s g.tables_at)) ≡ Accepted f v → (g ≡ f) × (w ≡ v) × Parts s f v m
+          cond {A = JobRead} b (Err (refusal_of cause.Job 0)) (after_tables s g w (end_of (table_count g w) s g.tables_at)) ≡ Ok (f, v) → (g ≡ f) × (w ≡ v) × Parts s f v m
       unfolding tables_of
-      sizes_by w m true o h = never 14 0 h
+      sizes_by w m true o h = absurd (err≢ok h)
       sizes_by w m false o h =
           let e = tables_by w (end_of (table_count g w) s g.tables_at) h in (
             e.0,
@@ -148,26 +142,26 @@ module _ (s : List ℕ) (f : Front) (v : ℕ) where
                 }),
           )
 
-      pub parts_of : (w m : ℕ) → after_sizes s g w m ≡ Accepted f v → (g ≡ f) × (w ≡ v) × Parts s f v m
+      pub parts_of : (w m : ℕ) → after_sizes s g w m ≡ Ok (f, v) → (g ≡ f) × (w ≡ v) × Parts s f v m
       unfolding after_sizes
       parts_of w m h = sizes_by w m (ltb max_job_vertices w || ltb max_job_edges m) refl h
 
-      plan_by : (p : PlanRead) → sizes (decode (plan_of s g)) ≡ p → after_plan s g p ≡ Accepted f v → Ready s f v
+      plan_by : (p : PlanRead) → sizes (decode (plan_of s g)) ≡ p → after_plan s g p ≡ Ok (f, v) → Ready s f v
       unfolding after_plan
-      plan_by (checked.Sizes w m) z h =
-          let e = parts_of w m h in
-          record { edges = m; sizes = rw (sym e.0, sym e.1) z; parts = e.2 }
-      plan_by (checked.Refused n p) z h = never n p h
+      plan_by (Ok size) z h =
+          let e = parts_of size.vertices size.edges h in
+          record { edges = size.edges; sizes = rw (sym e.0, sym e.1) z; parts = e.2 }
+      plan_by (Err e) z h = absurd (err≢ok h)
 
-  front_by : (r : FrontRead) → front s ≡ r → after_front s r ≡ Accepted f v → Ready s f v
+  front_by : (r : FrontRead) → front s ≡ r → after_front s r ≡ Ok (f, v) → Ready s f v
   unfolding after_front
-  front_by (Whole g) e h = plan_by g e (sizes (decode (plan_of s g))) refl h
-  front_by front_read.Refused e h = never 14 0 h
+  front_by (Some g) e h = plan_by g e (sizes (decode (plan_of s g))) refl h
+  front_by None e h = absurd (err≢ok h)
 
-  size_by : (b : Bool) → cond b (Refused 14 0) (after_front s (front s)) ≡ Accepted f v → Ready s f v
-  size_by true h = never 14 0 h
+  size_by : (b : Bool) → cond {A = JobRead} b (Err (refusal_of cause.Job 0)) (after_front s (front s)) ≡ Ok (f, v) → Ready s f v
+  size_by true h = absurd (err≢ok h)
   size_by false h = front_by (front s) refl h
 
-  pub accepted_ready : job_read s ≡ Accepted f v → Ready s f v
+  pub accepted_ready : job_read s ≡ Ok (f, v) → Ready s f v
   unfolding job_read
   accepted_ready h = size_by (ltb max_job_bytes (length s)) h

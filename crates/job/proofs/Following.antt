@@ -3,35 +3,23 @@ use Prim.Native.Nat.{ℕ}
 use native.Mathlib.Omega.{arith}
 use mathlib.Core.Path.{◌≡◌, refl, sym, ap, ◌∙◌}
 use mathlib.Core.Bool.{Bool, true, false, cond}
-use Rattle.leb128.specs.declared.NumberRead.{NumberRead}
-use Rattle.leb128.specs.declared.NumberRead.TheVariants.{Value, Refused}
+use Rattle.std.specs.Prelude.{Ok, Err, Some, None}
+use Rattle.job.specs.Front.{FrontRead, following, past}
+use Rattle.job.specs.Numbers.{NumbersRead}
+use Rattle.leb128.specs.Number.{NumberRead, malformed_at}
 use Rattle.job.specs.declared.Front.{Front}
-use Rattle.job.specs.declared.NumbersRead.{NumbersRead}
-use Rattle.job.specs.declared.NumbersRead.TheVariants.{Past, Malformed}
-use Rattle.job.specs.declared.FrontRead.{FrontRead}
-use Rattle.job.specs.declared.FrontRead.TheVariants.{Whole}
-use Rattle.job.specs.declared.FrontRead.TheVariants as front_read
-use Rattle.job.specs.Front.{following, past}
 
 -- ---- for the code that reads on
 
 module _ (rest : ℕ → ℕ → FrontRead) (r got : NumberRead) (e : got ≡ r) where
-  pub follows : (x next : ℕ) (t : FrontRead) → got ≡ Value x next → t ≡ rest x next → t ≡ following r rest
+  pub follows : (x next : ℕ) (t : FrontRead) → got ≡ Ok (x, next) → t ≡ rest x next → t ≡ following r rest
   unfolding following
   follows x next t f h = h ∙ sym (ap (λ (q : NumberRead). following q rest) (sym e ∙ f))
 
-  pub follows_none : (p : ℕ) → got ≡ Refused p → front_read.Refused ≡ following r rest
-  unfolding following
-  follows_none p f = sym (ap (λ (q : NumberRead). following q rest) (sym e ∙ f))
-
 module _ (rest : ℕ → FrontRead) (r got : NumbersRead) (e : got ≡ r) where
-  pub passes : (next : ℕ) (t : FrontRead) → got ≡ Past next → t ≡ rest next → t ≡ past r rest
+  pub passes : (next : ℕ) (t : FrontRead) → got ≡ Some next → t ≡ rest next → t ≡ past r rest
   unfolding past
   passes next t f h = h ∙ sym (ap (λ (q : NumbersRead). past q rest) (sym e ∙ f))
-
-  pub passes_none : got ≡ Malformed → front_read.Refused ≡ past r rest
-  unfolding past
-  passes_none f = sym (ap (λ (q : NumbersRead). past q rest) (sym e ∙ f))
 
 module _ {A : Type 0} (b : Bool) (x y : A) where
   pub holds : b ≡ true → x ≡ cond b x y
@@ -44,18 +32,18 @@ module _ {A : Type 0} (b : Bool) (x y : A) where
 
 module _ {A : Type 0} (f : Front) where
   pub whole_following :
-      (r : NumberRead) (rest : ℕ → ℕ → FrontRead) → following r rest ≡ Whole f →
-      ((x next : ℕ) → r ≡ Value x next → rest x next ≡ Whole f → A) → A
+      (r : NumberRead) (rest : ℕ → ℕ → FrontRead) → following r rest ≡ Some f →
+      ((x next : ℕ) → r ≡ Ok (x, next) → rest x next ≡ Some f → A) → A
   unfolding following
-  whole_following (Value x next) rest h go = go x next refl h
-  whole_following (Refused p) rest h go = let z : ◌≡◌ {A = ℕ} 0 1 = cc in absurd (omega arith)
+  whole_following (Ok (x, next)) rest h go = go x next refl h
+  whole_following (Err e) rest h go = let z : ◌≡◌ {A = ℕ} 0 1 = cc in absurd (omega arith)
 
   pub whole_past :
-      (r : NumbersRead) (rest : ℕ → FrontRead) → past r rest ≡ Whole f → ((next : ℕ) → r ≡ Past next → rest next ≡ Whole f → A) → A
+      (r : NumbersRead) (rest : ℕ → FrontRead) → past r rest ≡ Some f → ((next : ℕ) → r ≡ Some next → rest next ≡ Some f → A) → A
   unfolding past
-  whole_past (Past next) rest h go = go next refl h
-  whole_past Malformed rest h go = let z : ◌≡◌ {A = ℕ} 0 1 = cc in absurd (omega arith)
+  whole_past (Some next) rest h go = go next refl h
+  whole_past None rest h go = let z : ◌≡◌ {A = ℕ} 0 1 = cc in absurd (omega arith)
 
-  pub whole_cond : (b : Bool) (y : FrontRead) → cond b front_read.Refused y ≡ Whole f → (b ≡ false → y ≡ Whole f → A) → A
+  pub whole_cond : (b : Bool) (y : FrontRead) → cond b None y ≡ Some f → (b ≡ false → y ≡ Some f → A) → A
   whole_cond true y h go = let z : ◌≡◌ {A = ℕ} 0 1 = cc in absurd (omega arith)
   whole_cond false y h go = go refl h

@@ -8,8 +8,13 @@ use lib.ListN.{length, get_or, take, drop, length-drop}
 use lib.Seq.{length-take-le}
 use lib.Dec.{ltb}
 use borrow.Author.Tests.{le-ltb, eq-eqb}
+use Rattle.graph.specs.declared.refusal.Cause.{Cause}
+use Rattle.graph.specs.declared.refusal.Cause.TheVariants as cause
 use Rattle.graph.specs.declared.Edge.{Edge}
-use Rattle.graph.specs.declared.PlanRead.TheVariants as checked
+use Rattle.std.specs.Prelude.{Ok, Err}
+use Rattle.leb128.proofs.Result.{ok_is}
+use Rattle.graph.specs.declared.Size.{Size}
+use Rattle.graph.specs.Refusal.{number_of, refusal_of, size_of}
 use Rattle.graph.specs.Plan.{Decoded, accepted, refused, decode, sizes}
 use Rattle.graph.specs.Lists.{Fault, none, fault}
 use Rattle.text.specs.Text.{each, turn_lines, refused_line}
@@ -17,7 +22,6 @@ use Rattle.search.specs.Call.{row, first, ends_row, tables_row, schedule_row, me
 use Rattle.search.specs.Outcome.{figures, answer_in, answer}
 use Rattle.search.specs.Reason.{inquiry_fault_in, inquiry_fault, answered}
 use Rattle.job.specs.declared.Front.{Front}
-use Rattle.job.specs.declared.JobRead.TheVariants.{Accepted, Refused}
 use Rattle.job.specs.Front.{front}
 use Rattle.job.specs.Reading.{max_job_bytes, max_job_edges, plan_of, table_count, after_plan, after_front, job_read}
 use Rattle.job.specs.Asked.{tables_of, anchor_of, sheets_of, route_size, work_size, wide_size, zeros, call_with, call_asked}
@@ -28,9 +32,9 @@ use Rattle.job.proofs.Accepted.{Ready, accepted_ready}
 
 -- ---- rows, downwards
 
-module _ (n p : ℕ) where
+module _ (n : Cause) (p : ℕ) where
   -- a row of its own, then the others
-  row_then : (b : Bool) (k : ℕ) (rs : List Fault) → Own k → (first rs ≡ fault n p → Own n) → first (row b k 0 ∷ rs) ≡ fault n p → Own n
+  row_then : (b : Bool) (k : Cause) (rs : List Fault) → Own k → (first rs ≡ fault n p → Own n) → first (row b k 0 ∷ rs) ≡ fault n p → Own n
   unfolding row first
   row_then true k rs o f h = let e : k ≡ n = cc in subst Own e o
   row_then false k rs o f h = f h
@@ -43,8 +47,8 @@ module _ (n p : ℕ) where
 
   edge_by :
       (h : List ℕ) (i : ℕ) (es : List Edge) → (edges_row h (suc i) es ≡ fault n p → Own n) → (b : Bool) →
-      cond b (fault 13 i) (edges_row h (suc i) es) ≡ fault n p → Own n
-  edge_by h i es f true e = let k : 13 ≡ n = cc in subst Own k edge
+      cond b (fault cause.AnchorRule i) (edges_row h (suc i) es) ≡ fault n p → Own n
+  edge_by h i es f true e = let k : cause.AnchorRule ≡ n = cc in subst Own k edge
   edge_by h i es f false e = f e
 
   edges_own : (h : List ℕ) (i : ℕ) (es : List Edge) → edges_row h i es ≡ fault n p → Own n
@@ -86,17 +90,18 @@ module _ (s : List ℕ) (f : Front) (v : ℕ) (r : Ready s f v) where
         le-ltb wide_size (2 * v) (omega (arith, r.parts.vertices)),
       )
 
-  own_by : (n p : ℕ) (d : Decoded) → sizes d ≡ checked.Sizes v r.edges → fault_in (call_asked s f v) d ≡ fault n p → Own n
+  own_by : (n : Cause) (p : ℕ) (d : Decoded) → sizes d ≡ Ok (size_of v r.edges) → fault_in (call_asked s f v) d ≡ fault n p → Own n
   unfolding fault_in sizes ends_row schedule_row goal_row
   own_by n p (refused m q) e h = let z : ◌≡◌ {A = ℕ} 0 1 = cc in absurd (omega arith)
   own_by n p (accepted w es) e h =
-      let same : w ≡ v = cc in
-      let count : length es ≡ r.edges = cc in
-      row_then n p _ 8 _ ends
+      let i : size_of w (length es) ≡ size_of v r.edges = ok_is e in
+      let same : w ≡ v = ap (λ (z : Size). z.vertices) i in
+      let count : length es ≡ r.edges = ap (λ (z : Size). z.edges) i in
+      row_then n p _ cause.Ends _ ends
       (none_then n p _ _ (rw same tables_clear)
-      (row_then n p _ 10 _ schedule
+      (row_then n p _ cause.Schedule _ schedule
       (none_then n p _ _ (rw (same, count) (memory_clear r.edges r.parts.few))
-      (row_then n p _ 12 _ goal (last_own n p _ es)))))
+      (row_then n p _ cause.Goal _ goal (last_own n p _ es)))))
       h
 
 pub own_refusals : OwnRefusals
@@ -114,15 +119,15 @@ unfolding job_read after_front after_plan
 plan_refusals =
     record {
       plan = λ s f n p l h q.
-          ap (λ (b : Bool). cond b (Refused 14 0) (after_front s (front s))) (le-ltb max_job_bytes (length s) l) ∙ ap (after_front s) h
+          ap (λ (b : Bool). cond b (Err (refusal_of cause.Job 0)) (after_front s (front s))) (le-ltb max_job_bytes (length s) l) ∙ ap (after_front s) h
           ∙ ap (after_plan s f) q;
     }
 
 -- the call on such a plan is refused in the words of the job
-pub plan_text : (s : List ℕ) (f : Front) (v n p : ℕ) → decode (plan_of s f) ≡ refused n p → text_of s (Refused n p) ≡ text_of s (Accepted f v)
+pub plan_text : (s : List ℕ) (f : Front) (v : ℕ) (n : Cause) (p : ℕ) → decode (plan_of s f) ≡ refused n p → text_of s (Err (refusal_of n p)) ≡ text_of s (Ok (f, v))
 unfolding text_of call_text printed last_lines turns turn_lines each figures answer answer_in fault_of fault_in call_asked call_with
 plan_text s f v n p d = rw d
 
-pub plan_explained : (s : List ℕ) (f : Front) (v n p : ℕ) → decode (plan_of s f) ≡ refused n p → explained_as s (Refused n p) ≡ explained_as s (Accepted f v)
+pub plan_explained : (s : List ℕ) (f : Front) (v : ℕ) (n : Cause) (p : ℕ) → decode (plan_of s f) ≡ refused n p → explained_as s (Err (refusal_of n p)) ≡ explained_as s (Ok (f, v))
 unfolding explained_as inquiry_text inquiry_asked answered inquiry_fault inquiry_fault_in answer_in figures last_lines reason_lines call_asked call_with
-plan_explained s f v n p d = rw d (sym (append-nil (refused_line n p)))
+plan_explained s f v n p d = rw d (sym (append-nil (refused_line (number_of n) p)))

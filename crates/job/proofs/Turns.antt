@@ -6,7 +6,10 @@ use mathlib.Core.Path.{◌≡◌, refl, sym, ap, ◌∙◌}
 use mathlib.Core.List.{List, map}
 use lib.ListN.{length, take, length-map, length-replicate}
 use lib.Seq.{take_all}
-use Rattle.graph.specs.declared.PlanRead.TheVariants as checked
+use Rattle.std.specs.Prelude.{Ok}
+use Rattle.leb128.proofs.Result.{ok_is}
+use Rattle.graph.specs.declared.Size.{Size}
+use Rattle.graph.specs.Refusal.{size_of}
 use Rattle.graph.specs.Plan.{accepted, sizes}
 use Rattle.graph.specs.Lists.{Fault, none, fault}
 use Rattle.text.specs.Text.{turn_lines}
@@ -18,13 +21,12 @@ use Rattle.search.specs.Guarantee.{Guarantee}
 use Rattle.search.proofs.Admitted.{rounds_few}
 use Rattle.search.proofs.Guarantee.{guaranteed, turns_few}
 use Rattle.job.specs.declared.Front.{Front}
-use Rattle.job.specs.declared.JobRead.TheVariants.{Accepted}
 use Rattle.job.specs.Reading.{max_job_vertices, job_read}
 use Rattle.job.specs.Asked.{log_size, zeros, call_with, call_asked}
 use Rattle.job.specs.Printed.{turns, EveryTurn}
 use Rattle.job.proofs.Accepted.{Ready, accepted_ready}
 
-module _ (s : List ℕ) (f : Front) (v : ℕ) (h : job_read s ≡ Accepted f v) where
+module _ (s : List ℕ) (f : Front) (v : ℕ) (h : job_read s ≡ Ok (f, v)) where
   abbrev c : Call
   c = call_asked s f v
 
@@ -47,8 +49,8 @@ module _ (s : List ℕ) (f : Front) (v : ℕ) (h : job_read s ≡ Accepted f v) 
     vertices_few =
         let r : Ready s f v = accepted_ready s f v h in
         let y : Admitted c = (guaranteed c).exact.0 e in
-        let p : sizes (accepted y.size y.edges) ≡ checked.Sizes v r.edges = ap sizes (sym y.plan) ∙ r.sizes in
-        let same : y.size ≡ v = cc in
+        let p : sizes (accepted y.size y.edges) ≡ Ok (size_of v r.edges) = ap sizes (sym y.plan) ∙ r.sizes in
+        let same : y.size ≡ v = ap (λ (z : Size). z.vertices) (ok_is p) in
         rw y.plan (omega (arith, r.parts.vertices))
 
     turns_held : length history ≤ length c.memory.log

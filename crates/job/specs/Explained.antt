@@ -1,14 +1,13 @@
 -- What is printed of an explanation: the lines of a job's bytes without the turn lines, and after `no route turns T` what can be reached and the
 -- barred lanes that leave it.
-use Rattle.std.specs.Prelude.{ℕ, List, [], ◌++◌, get_or, replicate}
+use Rattle.std.specs.Prelude.{ℕ, List, [], ◌++◌, get_or, replicate, Ok, Err}
 use Rattle.graph.specs.declared.Edge.{Edge}
 use Rattle.text.specs.Text.{each, reach_line, barred_line, refused_line}
 use Rattle.search.specs.Call.{Call, plan_edges}
 use Rattle.search.specs.Outcome.{Ending, route, no_route, unfinished, refused, figures}
 use Rattle.search.specs.Reason.{Inquiry, answered, call_memory, vertices_listed, edges_listed, lent}
-use Rattle.job.specs.declared.JobRead.{JobRead}
-use Rattle.job.specs.declared.JobRead.TheVariants.{Accepted, Refused}
-use Rattle.job.specs.Reading.{max_job_vertices, max_job_edges, job_read}
+use Rattle.graph.specs.Refusal.{number_of}
+use Rattle.job.specs.Reading.{JobRead, max_job_vertices, max_job_edges, job_read}
 use Rattle.job.specs.Asked.{call_asked}
 use Rattle.job.specs.Printed.{last_lines}
 
@@ -40,8 +39,8 @@ inquiry_text x =
     ++ reason_lines (figures (answered x)).ending (plan_edges x.call) (vertices_listed x) (edges_listed x)
 
 unfoldable pub explained_as : List ℕ → JobRead → List ℕ
-explained_as s (Accepted f v) = inquiry_text (inquiry_asked (call_asked s f v))
-explained_as s (Refused n p) = refused_line n p
+explained_as s (Ok (f, v)) = inquiry_text (inquiry_asked (call_asked s f v))
+explained_as s (Err e) = refused_line (number_of e.cause) e.at
 
 -- job bytes → the lines of its explanation
 unfoldable pub explain_text : List ℕ → List ℕ

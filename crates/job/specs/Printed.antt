@@ -1,12 +1,11 @@
 -- What the bench program prints for a job's bytes.
-use Rattle.std.specs.Prelude.{ℕ, ◌≤◌, ◌≡◌, List, ◌++◌, map, length, take}
+use Rattle.std.specs.Prelude.{ℕ, ◌≤◌, ◌≡◌, List, ◌++◌, map, length, take, Ok, Err}
 use Rattle.text.specs.Text.{turn_lines, route_line, end_line, no_route_line, unfinished_line, refused_line}
 use Rattle.graph.specs.Lists.{none}
 use Rattle.search.specs.Call.{Call, fault_of}
 use Rattle.search.specs.Outcome.{Ending, route, no_route, unfinished, refused, Figures, figures, log_word, outcome, answer, memory_after}
-use Rattle.job.specs.declared.JobRead.{JobRead}
-use Rattle.job.specs.declared.JobRead.TheVariants.{Accepted, Refused}
-use Rattle.job.specs.Reading.{job_read}
+use Rattle.graph.specs.Refusal.{number_of}
+use Rattle.job.specs.Reading.{JobRead, job_read}
 use Rattle.job.specs.Asked.{call_asked}
 
 -- the turns that log memory shows
@@ -28,8 +27,8 @@ unfoldable pub call_text : Call → List ℕ
 call_text c = printed (figures (answer c)) (memory_after c).route (memory_after c).log
 
 unfoldable pub text_of : List ℕ → JobRead → List ℕ
-text_of s (Accepted f v) = call_text (call_asked s f v)
-text_of s (Refused n p) = refused_line n p
+text_of s (Ok (f, v)) = call_text (call_asked s f v)
+text_of s (Err e) = refused_line (number_of e.cause) e.at
 
 -- job bytes → printed text
 unfoldable pub bench_text : List ℕ → List ℕ

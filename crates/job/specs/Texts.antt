@@ -1,8 +1,7 @@
 -- A text in the bench program's lent buffer, and its most bytes.
-use Rattle.std.specs.Prelude.{ℕ, ◌+◌, ◌*◌, ◌≤◌, ◌≡◌, List, length}
+use Rattle.std.specs.Prelude.{ℕ, ◌+◌, ◌*◌, ◌≤◌, ◌≡◌, List, length, Ok}
 use Rattle.text.specs.Laid.{Put}
 use Rattle.job.specs.declared.Front.{Front}
-use Rattle.job.specs.declared.JobRead.TheVariants.{Accepted}
 use Rattle.job.specs.Reading.{job_read}
 use Rattle.job.specs.Asked.{route_size, log_size, call_asked}
 use Rattle.job.specs.Printed.{bench_text, EveryTurn}
@@ -23,7 +22,7 @@ pub record Texts (text old : List ℕ) (r : ℕ) (new : List ℕ) : Type 0 where
 -- a job's text in the buffer; an accepted job's has a line for every turn of the call that it asks
 pub record Prints (s old : List ℕ) (r : ℕ) (new : List ℕ) : Type 0 where
   pub texts : Texts (bench_text s) old r new
-  pub every_turn : (f : Front) (v : ℕ) → job_read s ≡ Accepted f v → EveryTurn (call_asked s f v)
+  pub every_turn : (f : Front) (v : ℕ) → job_read s ≡ Ok (f, v) → EveryTurn (call_asked s f v)
 
 -- route and log memory are no longer than the bench program's
 pub record BenchSized (route log : List ℕ) : Type 0 where

@@ -1,58 +1,45 @@
 -- Laws of memory as numbers are stored one after another.
 use Prim.Native.Nat.{ℕ, suc, ◌+◌, ◌-◌, ◌<◌, ◌≤◌}
+use native.Mathlib.Numerals.{add-one}
 use native.Mathlib.Omega.{arith}
 use mathlib.Core.Path.{◌≡◌, refl, sym, ap, ◌∙◌}
 use mathlib.Core.List.{List}
-use lib.ListN.{length, length-set}
+use lib.ListN.{length, set, length-set}
 use lib.Seq.{sets}
-use Rattle.leb128.specs.Number.{read, job_groups}
-use Rattle.leb128.specs.declared.NumberRead.{NumberRead}
-use Rattle.leb128.specs.declared.NumberRead.TheVariants.{Value, Refused}
+use Rattle.std.specs.Prelude.{Ok, Err}
+use Rattle.leb128.specs.declared.Malformed.{Malformed}
+use Rattle.leb128.specs.Number.{read, job_groups, NumberRead}
 use Rattle.job.specs.Numbers.{value_before, values}
 use Rattle.job.proofs.Values.{values_refused}
-use Rattle.job_reader.specs.Stored.{after, value_stored_at}
 
 -- what is to come from here, stored from here on, gives what the whole gives
-
-pub record Storing (s : List ℕ) (count : ℕ) (old whole : List ℕ) (i next : ℕ) (now : List ℕ) : Type 0 where
-  pub rest : whole ≡ sets now i (values (count - i) s next)
+pub record Storing (s : List ℕ) (count at : ℕ) (old : List ℕ) (i next : ℕ) (now : List ℕ) : Type 0 where
+  pub rest : sets old 0 (values count s at) ≡ sets now i (values (count - i) s next)
   pub size : length now ≡ length old
   pub few : i ≤ count
 
-pub storing_none : (s : List ℕ) (count at : ℕ) (old : List ℕ) → Storing s count old (sets old 0 (values count s at)) 0 at old
-storing_none s count at old =
-    record { rest = ap (λ (n : ℕ). sets old 0 (values n s at)) (omega arith); size = refl; few = omega arith }
+module _ (s : List ℕ) (count at : ℕ) (old : List ℕ) where
+  pub storing_none : Storing s count at old 0 at old
+  storing_none =
+      let z : count ≡ count - 0 = omega arith in
+      record { rest = ap (λ (n : ℕ). sets old 0 (values n s at)) z; size = refl; few = omega arith }
 
-module _ (s : List ℕ) (count : ℕ) (old whole : List ℕ) (i next : ℕ) (now : List ℕ) where
-  next_by :
-      (k : ℕ) (r : NumberRead) → read job_groups s next ≡ r → whole ≡ sets now i (values (suc k) s next) →
-      whole ≡ sets (value_stored_at i now r) (suc i) (values k s (after next r))
-  unfolding values value_before
-  next_by k (Value x m) e h = h ∙ ap (λ (r : NumberRead). sets now i (value_before (values k s) r)) e
-  next_by k (Refused q) e h =
-      h
-      ∙ ap (λ (l : List ℕ). sets now i l) (values_refused (suc k) s next q e)
-      ∙ ap (λ (l : List ℕ). sets now (suc i) l) (sym (values_refused k s next q e))
+  module _ (i next : ℕ) (now : List ℕ) (h : Storing s count at old i next now) where
+    pub storing_next : (x m : ℕ) → i < count → read job_groups s next ≡ Ok (x, m) → Storing s count at old (i + 1) m (set now i x)
+    unfolding values value_before
+    storing_next x m l e =
+        let k : count - i ≡ suc (count - suc i) = omega (arith, l) in
+        let one = h.rest ∙ ap (λ (n : ℕ). sets now i (values n s next)) k in
+        rw (add-one i)
+        record {
+          rest = one ∙ ap (λ (r : NumberRead). sets now i (value_before (values (count - suc i) s) r)) e;
+          size = length-set now i x ∙ h.size;
+          few = omega (arith, l);
+        }
 
-  size_by : (r : NumberRead) → length (value_stored_at i now r) ≡ length now
-  size_by (Value x m) = length-set now i x
-  size_by (Refused q) = refl
+    pub storing_over : (r : Malformed) → read job_groups s next ≡ Err r → now ≡ sets old 0 (values count s at)
+    storing_over r e = sym (h.rest ∙ ap (λ (l : List ℕ). sets now i l) (values_refused (count - i) s next r.at e))
 
-  pub storing_next :
-      (m : ℕ) (new : List ℕ) → i < count → m ≡ after next (read job_groups s next) → new ≡ value_stored_at i now (read job_groups s next) →
-      Storing s count old whole i next now → Storing s count old whole (i + 1) m new
-  storing_next m new l e f h =
-      let k : count - i ≡ suc (count - (i + 1)) = omega arith in
-      let one : i + 1 ≡ suc i = omega arith in
-      record {
-        rest =
-            rw (f, e, one)
-            (next_by (count - suc i) (read job_groups s next) refl (h.rest ∙ ap (λ (n : ℕ). sets now i (values n s next)) (k ∙ ap (λ (n : ℕ). suc (count - n)) one)));
-        size = ap length f ∙ size_by (read job_groups s next) ∙ h.size;
-        few = omega arith;
-      }
-
-  pub storing_all : count ≤ i → Storing s count old whole i next now → now ≡ whole
-  unfolding values
-  storing_all l h =
-      let z : count - i ≡ 0 = omega arith in sym (h.rest ∙ ap (λ (n : ℕ). sets now i (values n s next)) z)
+    pub storing_all : count ≤ i → now ≡ sets old 0 (values count s at)
+    unfolding values
+    storing_all l = let z : count - i ≡ 0 = omega (arith, l) in sym (h.rest ∙ ap (λ (n : ℕ). sets now i (values n s next)) z)

@@ -4,8 +4,7 @@ ghost use Rattle.std.specs.Prelude.{◌≡◌};
 ghost use Rattle.job.specs.Front.{front, ends, rounds};
 
 use crate::numbers;
-use job::{Ends, Front, FrontRead, NumbersRead};
-use leb128::NumberRead;
+use job::{Ends, Front};
 
 // The limits of a job: its rounds and guides.
 const MAX_JOB_ROUNDS: u32 = 16;
@@ -13,27 +12,20 @@ const MAX_JOB_ROUNDS: u32 = 16;
 const MAX_JOB_GUIDES: u32 = 8;
 
 // Rounds and factors, and the guide count.
-fn read_rounds(job: &[u8], plan_at: usize, plan_end: usize, ends: Ends, at: usize) -> FrontRead
+#[tactic(auto, unfolding(job::specs::Front::rounds, job::specs::Front::following, job::specs::Front::past))]
+fn read_rounds(job: &[u8], plan_at: usize, plan_end: usize, ends: Ends, at: usize) -> Option<Front>
     ensures { result ≡ rounds job.now plan_at plan_end ends at }
 {
-    let NumberRead::Value(round_count, factors_at) = leb128_reader::read_job_number(job, at) else {
-        return FrontRead::Refused;
-    };
+    let (round_count, factors_at) = leb128_reader::read_job_number(job, at).ok()?;
     if MAX_JOB_ROUNDS < round_count {
-        return FrontRead::Refused;
+        return None;
     }
-    let NumbersRead::Past(guides_at) = numbers::past(job, factors_at, 2 * round_count as usize)
-    else {
-        return FrontRead::Refused;
-    };
-    let NumberRead::Value(guide_count, tables_at) = leb128_reader::read_job_number(job, guides_at)
-    else {
-        return FrontRead::Refused;
-    };
+    let guides_at = numbers::past(job, factors_at, 2 * round_count as usize)?;
+    let (guide_count, tables_at) = leb128_reader::read_job_number(job, guides_at).ok()?;
     if MAX_JOB_GUIDES < guide_count {
-        return FrontRead::Refused;
+        return None;
     }
-    FrontRead::Whole(Front {
+    Some(Front {
         plan_at,
         plan_end,
         ends,
@@ -45,21 +37,14 @@ fn read_rounds(job: &[u8], plan_at: usize, plan_end: usize, ends: Ends, at: usiz
 }
 
 // Start, goal, the barred classes and budget, and what follows.
-fn read_ends(job: &[u8], plan_at: usize, plan_end: usize) -> FrontRead
+#[tactic(auto, unfolding(job::specs::Front::ends, job::specs::Front::following))]
+fn read_ends(job: &[u8], plan_at: usize, plan_end: usize) -> Option<Front>
     ensures { result ≡ ends job.now plan_at plan_end }
 {
-    let NumberRead::Value(start, goal_at) = leb128_reader::read_job_number(job, plan_end) else {
-        return FrontRead::Refused;
-    };
-    let NumberRead::Value(goal, barred_at) = leb128_reader::read_job_number(job, goal_at) else {
-        return FrontRead::Refused;
-    };
-    let NumberRead::Value(barred, budget_at) = leb128_reader::read_job_number(job, barred_at) else {
-        return FrontRead::Refused;
-    };
-    let NumberRead::Value(budget, at) = leb128_reader::read_job_number(job, budget_at) else {
-        return FrontRead::Refused;
-    };
+    let (start, goal_at) = leb128_reader::read_job_number(job, plan_end).ok()?;
+    let (goal, barred_at) = leb128_reader::read_job_number(job, goal_at).ok()?;
+    let (barred, budget_at) = leb128_reader::read_job_number(job, barred_at).ok()?;
+    let (budget, at) = leb128_reader::read_job_number(job, budget_at).ok()?;
     let ends = Ends {
         start,
         goal,
@@ -70,15 +55,14 @@ fn read_ends(job: &[u8], plan_at: usize, plan_end: usize) -> FrontRead
 }
 
 // Where the plan begins and ends, and what follows.
-pub fn read_front(job: &[u8]) -> FrontRead
+#[tactic(auto, unfolding(job::specs::Front::front, job::specs::Front::following))]
+pub fn read_front(job: &[u8]) -> Option<Front>
     ensures { result ≡ front job.now }
 {
-    let NumberRead::Value(size, plan_at) = leb128_reader::read_job_number(job, 0) else {
-        return FrontRead::Refused;
-    };
+    let (size, plan_at) = leb128_reader::read_job_number(job, 0).ok()?;
     let plan_end = plan_at + size as usize;
     if job.len() < plan_end {
-        return FrontRead::Refused;
+        return None;
     }
     read_ends(job, plan_at, plan_end)
 }

@@ -5,7 +5,7 @@ ghost use Rattle.std.specs.Prelude.{◌+◌, ◌^◌, ◌≤◌, ◌<◌, ◌≡
 ghost use Rattle.std.proofs.lemmas.List.Edits.{sets};
 ghost use Rattle.leb128.specs.Number.{plan_groups, encode, write_answer, written};
 
-use leb128::NumberWritten;
+use leb128::WriteError;
 
 // How many bytes a plan number takes.
 pub fn plan_number_len(value: u32) -> usize
@@ -47,19 +47,16 @@ pub fn lay_plan_number(out: &mut [u8], at: usize, value: u32) -> usize
     at + 4
 }
 
-// Writes a plan number at an offset, where it fits.
-pub fn write_plan_number(out: &mut [u8], at: usize, value: u32) -> NumberWritten
+// Writes a plan number at an offset, where it fits. Bytes and an offset are the C interface's.
+pub fn write_plan_number(out: &mut [u8], at: usize, value: u32) -> Result<usize, WriteError>
     ensures value { result ≡ write_answer plan_groups out.old at value }
     ensures out_after { out.new ≡ written plan_groups out.old at value }
 {
     if 268435456 <= value {
-        return NumberWritten::TooLarge;
+        return Err(WriteError::TooLarge);
     }
-    if out.len() <= at {
-        return NumberWritten::NoRoom;
+    if out.len().saturating_sub(at) < plan_number_len(value) {
+        return Err(WriteError::NoRoom);
     }
-    if out.len() - at < plan_number_len(value) {
-        return NumberWritten::NoRoom;
-    }
-    NumberWritten::Next(lay_plan_number(out, at, value))
+    Ok(lay_plan_number(out, at, value))
 }

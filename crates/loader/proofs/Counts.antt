@@ -3,9 +3,9 @@ use mathlib.Core.Path.{◌≡◌, refl, sym, ap, ◌∙◌}
 use mathlib.Core.List.{List, [], ◌∷◌, ◌++◌, append_assoc, append-nil}
 use Prim.Native.Nat.{ℕ, zero, suc, ◌+◌, ◌-◌, ◌≤◌, ◌<◌}
 use native.Mathlib.Nat.{add-zero, zero-add, suc-add, le_refl}
-use native.Mathlib.Numerals.{add-one}
 use native.Mathlib.Omega.{arith}
-use lib.ListN.{length, set, take, drop, replicate, length-replicate, length-append, drop_of_length-le}
+use borrow.Rule.Slice.PartMut.{put_mid, mid_of, mid_len, Post-is}
+use lib.ListN.{length, take, drop, replicate, length-replicate, length-append, drop_of_length-le}
 use lib.Seq.{sets, sets-eq, length-sets, length-take-le, take_at}
 use Rattle.graph.specs.declared.Edge.{Edge}
 use Rattle.search.specs.Outcome.{edges_below, first_edges}
@@ -55,19 +55,19 @@ unfoldable pub firsts_from : ℕ → ℕ → ℕ → List Edge → List ℕ → 
 firsts_from v j p [] f = sets f (p + 1) (replicate (v - p) j)
 firsts_from v j p (e ∷ es) f = firsts_from v (suc j) e.tail es (sets f (p + 1) (replicate (e.tail - p) j))
 
--- a number written again and again, from t up to `to`
-module _ (to t j : ℕ) (f : List ℕ) where
-  pub fill_more : t < to → sets (set f t j) (t + 1) (replicate (to - (t + 1)) j) ≡ sets f t (replicate (to - t) j)
-  fill_more h = let q : to - t ≡ suc (to - (t + 1)) = omega arith in rw (q, add-one)
-
-  pub fill_done : to ≤ t → sets f t (replicate (to - t) j) ≡ f
-  fill_done h = let q : to - t ≡ 0 = omega arith in rw q
-
 -- n numbers written after the first k
 sets_run : (k n j : ℕ) (f : List ℕ) → k + n ≤ length f → sets f k (replicate n j) ≡ (take k f ++ replicate n j) ++ drop (k + n) f
 sets_run k n j f h =
     let l : length (replicate n j) ≡ n = length-replicate n j in
     sets-eq (replicate n j) f k (omega arith) ∙ ap (λ (i : ℕ). (take k f ++ replicate n j) ++ drop (k + i) f) l
+
+-- the part from a up to e filled with j: what a `fill` leaves
+pub filled_part :
+    (a e j : ℕ) (f part : List ℕ) → a ≤ e → e ≤ length f → part ≡ replicate (length (mid_of a (e - a) f)) j →
+    put_mid a (e - a) f part ≡ sets f a (replicate (e - a) j)
+filled_part a e j f part h g q =
+    let i : a + (e - a) ≡ e = omega arith in
+    rw (q, mid_len a e f g, sets_run a (e - a) j f (omega arith), i, Post-is a e f h) (sym (append_assoc (take a f) (replicate (e - a) j) (drop e f)))
 
 pub firsts_are :
     (v j p : ℕ) (es : List Edge) (f : List ℕ) → Rising v p es → p ≤ v → length f ≡ suc v →

@@ -4,27 +4,27 @@ use mathlib.Core.List.{List, [], ◌∷◌, ◌++◌, map, append-nil}
 use Prim.Native.Nat.{ℕ, suc, ◌+◌, ◌*◌, ◌-◌, ◌≤◌, ◌<◌}
 use native.Mathlib.Numerals.{add-one}
 use native.Mathlib.Omega.{arith}
+use borrow.Rule.Slice.PartMut.{put_mid, mid_of}
 use lib.ListN.{length, set, take, drop, replicate, length-replicate, length-drop, length-set, length-map, take-append-drop, drop_of_length-le}
 use lib.Seq.{sets, sets-eq, length-sets, set-append_left, length-take-le, drop-drop}
 use Rattle.graph.specs.declared.Edge.{Edge}
 use Rattle.graph.specs.declared.Cursor.{Cursor}
-use Rattle.graph.specs.declared.EdgeRead.{EdgeRead}
-use Rattle.graph.specs.declared.EdgeRead.TheVariants.{Next, Refused}
-use Rattle.graph.specs.declared.PlanRead.TheVariants.{Sizes}
+use Rattle.std.specs.Prelude.{Ok}
+use Rattle.graph.specs.Refusal.{EdgeRead, size_of}
 use Rattle.graph.specs.Plan.{accepted, first_at, past, next_edge, edges_from, sizes}
 use Rattle.graph.specs.Lists.{head_of, cost_of, class_of, over, edges_in}
 use Rattle.plan_check.specs.Past.{cursor_past}
 use Rattle.graph.proofs.OneEdge.{Read, read_edge, edge_passes, passes_within}
 use Rattle.graph.proofs.Plan.{First, Accepts, accepts}
-use Rattle.plan_check.proofs.Checked.{Stored, stored_none, stored_next, first, cursor_next, none_left, sized_by}
+use Rattle.plan_check.proofs.Checked.{Stored, stored_next, first, cursor_next, none_left, sized_by}
 use Rattle.search.specs.Outcome.{first_edges}
-use Rattle.workspace.specs.declared.Size.{Size}
+use Rattle.graph.specs.declared.Size.{Size}
 use Rattle.workspace.specs.Layout.{base, graph_words, edge_put, with_edge}
 use Rattle.workspace.specs.Holds.{Rising, end, then}
 use Rattle.workspace.proofs.Written.{set_after}
 use Rattle.workspace.proofs.Firsts.{passes_rising, below_none, length_graph, columns, graph_columns}
 use Rattle.loader.specs.Stored.{edge_stored}
-use Rattle.loader.proofs.Counts.{counts_first, firsts_from, firsts_are}
+use Rattle.loader.proofs.Counts.{counts_first, filled_part, firsts_from, firsts_are}
 
 -- ---- one edge
 
@@ -34,7 +34,7 @@ pub record NextTail (v : ℕ) (c : Cursor) (e : Edge) (c' : Cursor) : Type 0 whe
   pub vertex : e.tail < v
   pub past : c'.tail ≡ e.tail
 
-pub next_tail : (v : ℕ) (s : List ℕ) (c : Cursor) (e : Edge) (c' : Cursor) → next_edge v s c ≡ Next e c' → NextTail v c e c'
+pub next_tail : (v : ℕ) (s : List ℕ) (c : Cursor) (e : Edge) (c' : Cursor) → next_edge v s c ≡ Ok (e, c') → NextTail v c e c'
 unfolding past
 next_tail v s c e c' h =
     let r : (Read v s c e c'.at) × (c' ≡ past e c'.at) = read_edge v s c e c' h in
@@ -44,16 +44,22 @@ next_tail v s c e c' h =
       past = ap (λ (x : Cursor). x.tail) r.1;
     }
 
-module _ (z : Size) (j : ℕ) (w : List ℕ) (c : Cursor) (r : EdgeRead) where
-  pub loaded_none : (n p : ℕ) → r ≡ Refused n p → (c ≡ cursor_past c r) × (w ≡ edge_stored z c.tail j w r)
-  unfolding cursor_past edge_stored
-  loaded_none n p q = (rw q, rw q)
+module _ (z : Size) (s : List ℕ) (j : ℕ) (w : List ℕ) (c : Cursor) where
+  abbrev r : EdgeRead
+  r = next_edge z.vertices s c
 
   pub loaded_one :
-      (e : Edge) (c' : Cursor) (f w' : List ℕ) → r ≡ Next e c' → f ≡ sets w (c.tail + 1) (replicate (e.tail + 1 - (c.tail + 1)) j) →
-      w' ≡ edge_put z j e f → (c' ≡ cursor_past c r) × (w' ≡ edge_stored z c.tail j w r)
-  unfolding cursor_past edge_stored with_edge
-  loaded_one e c' f w' q g k = let n : e.tail + 1 - (c.tail + 1) ≡ e.tail - c.tail = omega arith in (rw q, rw (q, k, g, n))
+      (e : Edge) (c' : Cursor) (part w' : List ℕ) → r ≡ Ok (e, c') → base z ≤ length w →
+      part ≡ replicate (length (mid_of (c.tail + 1) (e.tail + 1 - (c.tail + 1)) w)) j →
+      w' ≡ edge_put z j e (put_mid (c.tail + 1) (e.tail + 1 - (c.tail + 1)) w part) →
+      (c' ≡ cursor_past c r) × (w' ≡ edge_stored z c.tail j w r)
+  unfolding cursor_past edge_stored with_edge base
+  loaded_one e c' part w' q room h k =
+      let t : NextTail z.vertices c e c' = next_tail z.vertices s c e c' q in
+      let n : e.tail + 1 - (c.tail + 1) ≡ e.tail - c.tail = omega arith in
+      let f : put_mid (c.tail + 1) (e.tail + 1 - (c.tail + 1)) w part ≡ sets w (c.tail + 1) (replicate (e.tail + 1 - (c.tail + 1)) j) =
+      filled_part (c.tail + 1) (e.tail + 1) j w part (omega (arith, t.rises)) (omega (arith, t.vertex)) h in
+      (rw q, rw (q, k, f, n))
 
 length_with : (z : Size) (p j : ℕ) (e : Edge) (w : List ℕ) → length (with_edge z p j e w) ≡ length w
 unfolding with_edge edge_put
@@ -240,19 +246,6 @@ pub record Loading (z : Size) (s : List ℕ) (at : ℕ) (w₀ w : List ℕ) (j :
       ≡ load_from z 0 0 (edges_in (edges_from z.vertices z.edges s (first_at at))) w₀
 
 module _ (z : Size) (s : List ℕ) (at : ℕ) (w₀ : List ℕ) where
-  pub loading_none :
-      (c : Cursor) → c ≡ first_at at → sizes (edges_from z.vertices z.edges s (first_at at)) ≡ Sizes z.vertices z.edges →
-      Loading z s at w₀ w₀ 0 c
-  loading_none c q h =
-      let n : z.edges - 0 ≡ z.edges = omega arith in
-      rw q
-      record {
-        size = refl;
-        tail = omega arith;
-        stored = stored_none z.vertices z.edges s at h;
-        rest = ap (λ (x : ℕ). load_from z 0 0 (edges_in (edges_from z.vertices x s (first_at at))) w₀) n;
-      }
-
   module _ (w : List ℕ) (j : ℕ) (c : Cursor) (k : Loading z s at w₀ w j c) where
     pub loading_next :
         (w' : List ℕ) (c' : Cursor) → j < z.edges → c' ≡ cursor_past c (next_edge z.vertices s c) →
@@ -276,12 +269,13 @@ module _ (z : Size) (s : List ℕ) (at : ℕ) (w₀ : List ℕ) where
         }
 
     pub loading_all :
-        (old w' : List ℕ) → base z ≤ length old → w₀ ≡ set old 0 0 → z.edges ≤ j →
-        sizes (edges_from z.vertices z.edges s (first_at at)) ≡ Sizes z.vertices z.edges →
-        w' ≡ sets w (c.tail + 1) (replicate (z.vertices + 1 - (c.tail + 1)) z.edges) →
+        (old part w' : List ℕ) → base z ≤ length old → w₀ ≡ set old 0 0 → z.edges ≤ j →
+        sizes (edges_from z.vertices z.edges s (first_at at)) ≡ Ok (size_of z.vertices z.edges) →
+        part ≡ replicate (length (mid_of (c.tail + 1) (z.vertices + 1 - (c.tail + 1)) w)) z.edges →
+        w' ≡ put_mid (c.tail + 1) (z.vertices + 1 - (c.tail + 1)) w part →
         w' ≡ over (graph_words z.vertices (edges_in (edges_from z.vertices z.edges s (first_at at)))) old
-    unfolding load_from
-    loading_all old w' room begun done h g =
+    unfolding load_from base
+    loading_all old part w' room begun done h p g =
         let v : ℕ = z.vertices in
         let m : ℕ = z.edges in
         let n : v + 1 - (c.tail + 1) ≡ v - c.tail = omega arith in
@@ -292,6 +286,7 @@ module _ (z : Size) (s : List ℕ) (at : ℕ) (w₀ : List ℕ) where
         let a : Accepts v m s (first_at at) v (edges_in (edges_from v m s (first_at at)))
         = accepts v s m (first_at at) v (edges_in (edges_from v m s (first_at at))) x.0 in
         g
+        ∙ filled_part (c.tail + 1) (v + 1) m w part (omega (arith, k.tail)) (omega (arith, k.size, ap length begun, length-set old 0 0)) p
         ∙ ap (λ (y : ℕ). sets w (c.tail + 1) (replicate y m)) n
         ∙ ap (λ (y : ℕ). sets w (c.tail + 1) (replicate (v - c.tail) y)) (sym i)
         ∙ sym (ap (λ (es : List Edge). load_from z j c.tail es w) o)

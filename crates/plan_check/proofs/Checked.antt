@@ -6,23 +6,24 @@ use mathlib.Core.List.{List, [], ◌∷◌}
 use lib.ListN.{length}
 use Rattle.graph.specs.declared.Edge.{Edge}
 use Rattle.graph.specs.declared.Cursor.{Cursor}
-use Rattle.graph.specs.declared.PlanRead.TheVariants.{Sizes, Refused}
+use Rattle.std.specs.Prelude.{Ok}
+use Rattle.graph.specs.declared.Size.{Size}
+use Rattle.leb128.proofs.Result.{err≢ok, ok_is}
+use Rattle.graph.specs.Refusal.{size_of}
 use Rattle.graph.specs.Plan.{Decoded, accepted, refused, first_at, next_edge, edges_from, sizes}
 use Rattle.graph.specs.Lists.{edges_in}
 use Rattle.graph.proofs.Plan.{First, first_of, Accepts, accepts}
 use Rattle.plan_check.specs.Past.{HasNext, cursor_past}
 
-sizes≢refused : {v m n p : ℕ} → Refused n p ≡ Sizes v m → ⊥
-sizes≢refused h = let z : ◌≡◌ {A = ℕ} 0 1 = cc in omega arith
-
 -- what has sizes was accepted, with that count of edges
-pub sized_by : (d : Decoded) (v m : ℕ) → sizes d ≡ Sizes v m → (d ≡ accepted v (edges_in d)) × (length (edges_in d) ≡ m)
+pub sized_by : (d : Decoded) (v m : ℕ) → sizes d ≡ Ok (size_of v m) → (d ≡ accepted v (edges_in d)) × (length (edges_in d) ≡ m)
 unfolding sizes edges_in
 sized_by (accepted w es) v m h =
-    let a : w ≡ v = cc in
-    let b : length es ≡ m = cc in
+    let e = ok_is h in
+    let a : w ≡ v = ap (λ (z : Size). z.vertices) e in
+    let b : length es ≡ m = ap (λ (z : Size). z.edges) e in
     (ap (λ (x : ℕ). accepted x es) a, b)
-sized_by (refused n p) v m h = absurd (sizes≢refused h)
+sized_by (refused n p) v m h = absurd (err≢ok h)
 
 sub_zero : (m : ℕ) → m - 0 ≡ m
 sub_zero m = omega arith
@@ -34,11 +35,11 @@ empty (e ∷ es) h = absurd (omega arith)
 -- i of m edges were read, and the cursor stands before the rest
 pub record Stored (v m : ℕ) (s : List ℕ) (i : ℕ) (c : Cursor) : Type 0 where
   pub within : i ≤ m
-  pub good : sizes (edges_from v (m - i) s c) ≡ Sizes v (m - i)
+  pub good : sizes (edges_from v (m - i) s c) ≡ Ok (size_of v (m - i))
 
 module _ (v m : ℕ) (s : List ℕ) (at : ℕ) where
-  pub stored_none : sizes (edges_from v m s (first_at at)) ≡ Sizes v m → Stored v m s 0 (first_at at)
-  stored_none h = record { within = omega arith; good = subst (λ (x : ℕ). sizes (edges_from v x s (first_at at)) ≡ Sizes v x) (sym (sub_zero m)) h }
+  pub stored_none : sizes (edges_from v m s (first_at at)) ≡ Ok (size_of v m) → Stored v m s 0 (first_at at)
+  stored_none h = record { within = omega arith; good = subst (λ (x : ℕ). sizes (edges_from v x s (first_at at)) ≡ Ok (size_of v x)) (sym (sub_zero m)) h }
 
   -- the next edge is there
   module _ (i : ℕ) (c : Cursor) (more : i < m) (h : Stored v m s i c) where
@@ -73,7 +74,7 @@ module _ (v m : ℕ) (s : List ℕ) (at : ℕ) where
 
     pub stored_next : Stored v m s (suc i) first.after
     unfolding sizes
-    stored_next = record { within = omega arith; good = rw first.rest (ap (Sizes v) count_rest) }
+    stored_next = record { within = omega arith; good = rw first.rest (ap (λ (x : ℕ). Ok (size_of v x)) count_rest) }
 
   -- all edges were read
   module _ (i : ℕ) (c : Cursor) (All_there : m ≤ i) (h : Stored v m s i c) where
@@ -82,9 +83,9 @@ module _ (v m : ℕ) (s : List ℕ) (at : ℕ) where
         empty (edges_in (edges_from v (m - i) s c)) ((sized_by (edges_from v (m - i) s c) v (m - i) h.good).1 ∙ omega arith)
 
 -- what was checked has V vertices and M edges
-pub checked_sizes : (v m : ℕ) (s : List ℕ) (c : Cursor) (x y : ℕ) → sizes (edges_from v m s c) ≡ Sizes x y → sizes (edges_from v m s c) ≡ Sizes v m
+pub checked_sizes : (v m : ℕ) (s : List ℕ) (c : Cursor) (x y : ℕ) → sizes (edges_from v m s c) ≡ Ok (size_of x y) → sizes (edges_from v m s c) ≡ Ok (size_of v m)
 unfolding sizes
 checked_sizes v m s c x y h =
     let d : edges_from v m s c ≡ accepted x (edges_in (edges_from v m s c)) = (sized_by (edges_from v m s c) x y h).0 in
     let a : Accepts v m s c x (edges_in (edges_from v m s c)) = accepts v s m c x (edges_in (edges_from v m s c)) d in
-    ap sizes d ∙ ap (λ (z : ℕ). Sizes z (length (edges_in (edges_from v m s c)))) a.same ∙ ap (Sizes v) a.count
+    ap sizes d ∙ ap (λ (z : ℕ). Ok (size_of z (length (edges_in (edges_from v m s c))))) a.same ∙ ap (λ (x : ℕ). Ok (size_of v x)) a.count

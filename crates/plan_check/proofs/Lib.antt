@@ -1,5 +1,5 @@
 pub mod Ranges
 pub mod NextEdge
+pub mod Watching
 pub mod Checked
-pub mod Counts
 mod Passing

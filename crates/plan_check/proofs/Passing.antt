@@ -1,81 +1,56 @@
--- Laws for going through a plan that was checked: a number that is read there passes its rows.
-use Prim.Native.Nat.{ℕ, ◌-◌}
+-- Laws for going through a plan that was checked: the four numbers that are read there, and the edge that they are.
+use Prim.Native.Nat.{ℕ, ◌+◌, ◌-◌, ◌<◌}
 use native.Mathlib.Omega.{arith}
-use mathlib.Core.Path.{◌≡◌, sym, ◌∙◌, subst}
-use mathlib.Core.Bool.{cond}
+use mathlib.Core.Path.{◌≡◌}
 use mathlib.Core.List.{List}
-use lib.Dec.{eqb}
+use borrow.Author.Tests.{leb-false}
 use Rattle.leb128.specs.Number.{read, plan_groups}
-use Rattle.leb128.specs.declared.NumberRead.TheVariants.{Value, Refused}
+use Rattle.std.specs.Prelude.{Ok}
 use Rattle.graph.specs.declared.Cursor.{Cursor}
-use Rattle.graph.specs.declared.Taken.TheVariants.{Number}
-use Rattle.graph.specs.Rows.{Row, take_number, tail_rows, head_rows, cost_rows, class_rows}
-use Rattle.graph.specs.Plan.{least_after}
-use Rattle.plan_check.specs.Past.{HasNext}
-use Rattle.graph.proofs.Rows.{Passes, Passed, passed_take}
+use Rattle.graph.specs.Rows.{tail_rows, head_rows}
+use Rattle.graph.specs.Plan.{past, next_edge}
 use Rattle.graph.proofs.OneEdge.{Read, read_edge}
+use Rattle.plan_check.specs.Past.{HasNext, next_as}
 
--- what is read is no refusal
-module _ (s : List ℕ) (at : ℕ) (rows : ℕ → List Row) (x next : ℕ) (p : Passed s at rows x next) where
-  never : (q : ℕ) → read plan_groups s at ≡ Refused q → ⊥
-  never q e = let z : ◌≡◌ {A = ℕ} 0 1 = cc (sym p.reads ∙ e) in omega arith
+-- the numbers of the edge that is next, and where each ends
+pub record Numbers (v : ℕ) (s : List ℕ) (c : Cursor) : Type 0 where
+  pub difference : ℕ
+  pub head_at : ℕ
+  pub head : ℕ
+  pub cost_at : ℕ
+  pub cost : ℕ
+  pub class_at : ℕ
+  pub class : ℕ
+  pub end : ℕ
+  pub tail_read : read plan_groups s c.at ≡ Ok (difference, head_at)
+  pub head_read : read plan_groups s head_at ≡ Ok (head, cost_at)
+  pub cost_read : read plan_groups s cost_at ≡ Ok (cost, class_at)
+  pub class_read : read plan_groups s class_at ≡ Ok (class, end)
+  pub tail_within : c.tail + difference < v
+  pub head_within : head < v
+  pub is : next_as (c.tail + difference) head cost class end ≡ next_edge v s c
 
-  value_same : (y end : ℕ) → read plan_groups s at ≡ Value y end → x ≡ y
-  value_same y end e = let v : Value x next ≡ Value y end = sym p.reads ∙ e in cc
-
-  next_same : (y end : ℕ) → read plan_groups s at ≡ Value y end → next ≡ end
-  next_same y end e = let v : Value x next ≡ Value y end = sym p.reads ∙ e in cc
-
-  taken : (y end : ℕ) → read plan_groups s at ≡ Value y end → take_number s at rows ≡ Number y end
-  taken y end e = passed_take s at rows y end e (subst (λ (z : ℕ). Passes (rows z)) (value_same y end e) p.passes)
-
-module _ (v : ℕ) (s : List ℕ) (c : Cursor) (h : HasNext v s c) where
-  found : Read v s c h.edge h.after.at
-  found = (read_edge v s c h.edge h.after h.is).0
-
-  pub tail_there : (q : ℕ) → read plan_groups s c.at ≡ Refused q → ⊥
-  tail_there = never s c.at (tail_rows v c.tail) (h.edge.tail - c.tail) found.head_at found.tail_read
-
-  -- the tail's difference d
-  module _ (d head_at : ℕ) (a : read plan_groups s c.at ≡ Value d head_at) where
-    pub tail_taken : take_number s c.at (tail_rows v c.tail) ≡ Number d head_at
-    tail_taken = taken s c.at (tail_rows v c.tail) (h.edge.tail - c.tail) found.head_at found.tail_read d head_at a
-
-    head_passed : Passed s head_at (head_rows v (cond (eqb d 0) c.least 0)) h.edge.head found.cost_at
-    unfolding least_after
-    head_passed =
-        subst (λ (z : ℕ). Passed s z (head_rows v (cond (eqb d 0) c.least 0)) h.edge.head found.cost_at)
-        (next_same s c.at (tail_rows v c.tail) (h.edge.tail - c.tail) found.head_at found.tail_read d head_at a)
-        (subst (λ (z : ℕ). Passed s found.head_at (head_rows v (cond (eqb z 0) c.least 0)) h.edge.head found.cost_at)
-        (value_same s c.at (tail_rows v c.tail) (h.edge.tail - c.tail) found.head_at found.tail_read d head_at a)
-        found.head_read)
-
-    pub head_there : (q : ℕ) → read plan_groups s head_at ≡ Refused q → ⊥
-    head_there = never s head_at (head_rows v (cond (eqb d 0) c.least 0)) h.edge.head found.cost_at head_passed
-
-    module _ (x cost_at : ℕ) (b : read plan_groups s head_at ≡ Value x cost_at) where
-      pub head_taken : take_number s head_at (head_rows v (cond (eqb d 0) c.least 0)) ≡ Number x cost_at
-      head_taken = taken s head_at (head_rows v (cond (eqb d 0) c.least 0)) h.edge.head found.cost_at head_passed x cost_at b
-
-      cost_passed : Passed s cost_at cost_rows h.edge.cost found.class_at
-      cost_passed =
-          subst (λ (z : ℕ). Passed s z cost_rows h.edge.cost found.class_at)
-          (next_same s head_at (head_rows v (cond (eqb d 0) c.least 0)) h.edge.head found.cost_at head_passed x cost_at b) found.cost_read
-
-      pub cost_there : (q : ℕ) → read plan_groups s cost_at ≡ Refused q → ⊥
-      cost_there = never s cost_at cost_rows h.edge.cost found.class_at cost_passed
-
-      module _ (y class_at : ℕ) (e : read plan_groups s cost_at ≡ Value y class_at) where
-        pub cost_taken : take_number s cost_at cost_rows ≡ Number y class_at
-        cost_taken = taken s cost_at cost_rows h.edge.cost found.class_at cost_passed y class_at e
-
-        class_passed : Passed s class_at class_rows h.edge.class h.after.at
-        class_passed =
-            subst (λ (z : ℕ). Passed s z class_rows h.edge.class h.after.at)
-            (next_same s cost_at cost_rows h.edge.cost found.class_at cost_passed y class_at e) found.class_read
-
-        pub class_there : (q : ℕ) → read plan_groups s class_at ≡ Refused q → ⊥
-        class_there = never s class_at class_rows h.edge.class h.after.at class_passed
-
-        pub class_taken : (z end : ℕ) → read plan_groups s class_at ≡ Value z end → take_number s class_at class_rows ≡ Number z end
-        class_taken = taken s class_at class_rows h.edge.class h.after.at class_passed
+pub numbers : {v : ℕ} {s : List ℕ} {c : Cursor} → HasNext v s c → Numbers v s c
+unfolding tail_rows head_rows next_as past
+numbers {v = v} {s = s} {c = c} h =
+    let e = h.edge in
+    let found = read_edge v s c e h.after h.is in
+    let r : Read v s c e h.after.at = found.0 in
+    let t : c.tail + (e.tail - c.tail) ≡ e.tail = omega (arith, r.rising) in
+    record {
+      difference = e.tail - c.tail;
+      head_at = r.head_at;
+      head = e.head;
+      cost_at = r.cost_at;
+      cost = e.cost;
+      class_at = r.class_at;
+      class = e.class;
+      end = h.after.at;
+      tail_read = r.tail_read.reads;
+      head_read = r.head_read.reads;
+      cost_read = r.cost_read.reads;
+      class_read = r.class_read.reads;
+      tail_within = leb-false v _ r.tail_read.passes.0;
+      head_within = leb-false v _ r.head_read.passes.0;
+      is = rw t (cc (found.1, h.is));
+    }

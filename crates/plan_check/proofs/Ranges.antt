@@ -6,11 +6,11 @@ use mathlib.Core.Bool.{Bool, true, false, cond}
 use mathlib.Core.List.{List}
 use lib.Dec.{ltb, eqb, leb-suc-zero, leb-suc-suc, eqb-suc-zero}
 use borrow.Author.Tests.{lt-ltb, le-ltb, eqb-true, eqb-false}
-use Rattle.leb128.specs.declared.NumberRead.{NumberRead}
-use Rattle.leb128.specs.declared.NumberRead.TheVariants.{Value, Refused}
-use Rattle.leb128.specs.Number.{read, plan_groups}
-use Rattle.graph.specs.declared.Taken.TheVariants.{Number}
-use Rattle.graph.specs.declared.Taken.TheVariants as taken
+use Rattle.std.specs.Prelude.{Ok, Err}
+use Rattle.graph.specs.declared.refusal.Cause.{Cause}
+use Rattle.graph.specs.declared.refusal.Cause.TheVariants as cause
+use Rattle.graph.specs.Refusal.{Taken, refusal_of}
+use Rattle.leb128.specs.Number.{NumberRead, read, plan_groups}
 use Rattle.graph.specs.Limits.{max_vertices, max_edges, max_cost, max_class}
 use Rattle.graph.specs.Rows.{Row, through, through_all, take_number, vertex_count_rows, edge_count_rows, cost_rows, class_rows}
 use Rattle.plan_check.specs.Range.{range_rows}
@@ -18,35 +18,35 @@ use Rattle.plan_check.specs.Range.{range_rows}
 module _ (s : List ℕ) (at : ℕ) where
   -- rows that give the same for every number
   module _ (rows rows' : ℕ → List Row)
-      (same : (x next : ℕ) → through (rows x) (λ (n : ℕ). taken.Refused n at) (Number x next) ≡ through (rows' x) (λ (n : ℕ). taken.Refused n at) (Number x next)) where
+      (same : (x next : ℕ) → through {A = Taken} (rows x) (λ (n : Cause). Err (refusal_of n at)) (Ok (x, next)) ≡ through {A = Taken} (rows' x) (λ (n : Cause). Err (refusal_of n at)) (Ok (x, next))) where
     alike_by : (r : NumberRead) → through_all rows at r ≡ through_all rows' at r
     unfolding through_all
-    alike_by (Refused p) = refl
-    alike_by (Value x next) = same x next
+    alike_by (Err e) = refl
+    alike_by (Ok (x, next)) = same x next
 
     alike : take_number s at rows ≡ take_number s at rows'
     unfolding take_number
     alike = alike_by (read plan_groups s at)
 
-  pub vertex_count_range : take_number s at (range_rows (max_vertices + 1) 2 1 2) ≡ take_number s at vertex_count_rows
+  pub vertex_count_range : take_number s at (range_rows (max_vertices + 1) cause.VertexCount 1 cause.VertexCount) ≡ take_number s at vertex_count_rows
   unfolding range_rows vertex_count_rows through
-  vertex_count_range = alike (range_rows (max_vertices + 1) 2 1 2) vertex_count_rows same
+  vertex_count_range = alike (range_rows (max_vertices + 1) cause.VertexCount 1 cause.VertexCount) vertex_count_rows same
     where
-      same : (x next : ℕ) → through (range_rows (max_vertices + 1) 2 1 2 x) (λ (n : ℕ). taken.Refused n at) (Number x next) ≡ through (vertex_count_rows x) (λ (n : ℕ). taken.Refused n at) (Number x next)
+      same : (x next : ℕ) → through {A = Taken} (range_rows (max_vertices + 1) cause.VertexCount 1 cause.VertexCount x) (λ (n : Cause). Err (refusal_of n at)) (Ok (x, next)) ≡ through {A = Taken} (vertex_count_rows x) (λ (n : Cause). Err (refusal_of n at)) (Ok (x, next))
       same zero next = refl
       same (suc x) next = rw (eqb-suc-zero x, leb-suc-suc (suc x) 0, leb-suc-zero x)
 
-  pub edge_count_range : take_number s at (range_rows (max_edges + 1) 3 0 3) ≡ take_number s at edge_count_rows
+  pub edge_count_range : take_number s at (range_rows (max_edges + 1) cause.EdgeCount 0 cause.EdgeCount) ≡ take_number s at edge_count_rows
   unfolding range_rows edge_count_rows through
-  edge_count_range = alike (range_rows (max_edges + 1) 3 0 3) edge_count_rows (λ x next. rw (leb-suc-zero x))
+  edge_count_range = alike (range_rows (max_edges + 1) cause.EdgeCount 0 cause.EdgeCount) edge_count_rows (λ x next. rw (leb-suc-zero x))
 
-  pub cost_range : take_number s at (range_rows (max_cost + 1) 5 0 5) ≡ take_number s at cost_rows
+  pub cost_range : take_number s at (range_rows (max_cost + 1) cause.Cost 0 cause.Cost) ≡ take_number s at cost_rows
   unfolding range_rows cost_rows through
-  cost_range = alike (range_rows (max_cost + 1) 5 0 5) cost_rows (λ x next. rw (leb-suc-zero x))
+  cost_range = alike (range_rows (max_cost + 1) cause.Cost 0 cause.Cost) cost_rows (λ x next. rw (leb-suc-zero x))
 
-  pub class_range : take_number s at (range_rows (max_class + 1) 15 0 15) ≡ take_number s at class_rows
+  pub class_range : take_number s at (range_rows (max_class + 1) cause.Class 0 cause.Class) ≡ take_number s at class_rows
   unfolding range_rows class_rows through
-  class_range = alike (range_rows (max_class + 1) 15 0 15) class_rows (λ x next. rw (leb-suc-zero x))
+  class_range = alike (range_rows (max_class + 1) cause.Class 0 cause.Class) class_rows (λ x next. rw (leb-suc-zero x))
 
 -- ---- a head below the least that counts, which is 0 after a new tail: compared as one number
 

@@ -1,2 +1,3 @@
 pub mod Range
 pub mod Past
+pub mod Watched

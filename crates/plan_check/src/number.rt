@@ -3,82 +3,99 @@ ghost use Rattle.std.specs.Prelude.{◌≡◌, cond, eqb};
 ghost use Rattle.graph.specs.Rows.{take_number, vertex_count_rows, edge_count_rows, tail_rows, head_rows, cost_rows, class_rows};
 ghost use Rattle.plan_check.specs.Range.{range_rows};
 
-use graph::Taken;
-use leb128::NumberRead;
+use graph::refusal::{Cause, Refusal};
 
 // A number through the rows of a range: `above` where it is the limit or more, then `below` where it is
 // under the least.
-fn take_in(bytes: &[u8], at: usize, limit: u32, above: u32, least: u32, below: u32) -> Taken
+#[tactic(auto, unfolding(graph::specs::Rows::through, graph::specs::Rows::through_all, graph::specs::Rows::take_number, crate::specs::Range::range_rows))]
+fn take_in(
+    bytes: &[u8],
+    at: usize,
+    limit: u32,
+    above: Cause,
+    least: u32,
+    below: Cause,
+) -> Result<(u32, usize), Refusal>
     ensures { result ≡ take_number bytes.now at (range_rows limit above least below) }
 {
-    let NumberRead::Value(value, next) = leb128_reader::read_plan_number(bytes, at) else {
-        return Taken::Refused(1, at);
-    };
+    let (value, next) = leb128_reader::read_plan_number(bytes, at)?;
     if limit <= value {
-        return Taken::Refused(above, at);
+        return Err(above.at(at));
     }
     if value < least {
-        return Taken::Refused(below, at);
+        return Err(below.at(at));
     }
-    Taken::Number(value, next)
+    Ok((value, next))
 }
 
-// V, at the front: refusals 1 and 2.
-pub fn take_vertex_count(bytes: &[u8]) -> Taken
+// V, at the front.
+#[tactic(auto, using(crate::proofs::Ranges::vertex_count_range))]
+pub fn take_vertex_count(bytes: &[u8]) -> Result<(u32, usize), Refusal>
     ensures { result ≡ take_number bytes.now 0 vertex_count_rows }
 {
-    take_in(bytes, 0, graph::MAX_VERTICES + 1, 2, 1, 2)
+    let limit = graph::MAX_VERTICES + 1;
+    take_in(bytes, 0, limit, Cause::VertexCount, 1, Cause::VertexCount)
 }
 
-// M: refusals 1 and 3.
-pub fn take_edge_count(bytes: &[u8], at: usize) -> Taken
+// M.
+#[tactic(auto, using(crate::proofs::Ranges::edge_count_range))]
+pub fn take_edge_count(bytes: &[u8], at: usize) -> Result<(u32, usize), Refusal>
     ensures { result ≡ take_number bytes.now at edge_count_rows }
 {
-    take_in(bytes, at, graph::MAX_EDGES + 1, 3, 0, 3)
+    let limit = graph::MAX_EDGES + 1;
+    take_in(bytes, at, limit, Cause::EdgeCount, 0, Cause::EdgeCount)
 }
 
-// The difference of a tail to the tail before it: refusals 1 and 4. The sum is tested, which may pass 32 bits.
-pub fn take_tail(bytes: &[u8], at: usize, vertices: u32, tail: u32) -> Taken
+// The difference of a tail to the tail before it. The sum is tested, which may pass 32 bits.
+#[tactic(auto, unfolding(graph::specs::Rows::through, graph::specs::Rows::through_all, graph::specs::Rows::take_number, graph::specs::Rows::tail_rows))]
+pub fn take_tail(bytes: &[u8], at: usize, vertices: u32, tail: u32) -> Result<(u32, usize), Refusal>
     ensures { result ≡ take_number bytes.now at (tail_rows vertices tail) }
 {
-    let NumberRead::Value(difference, next) = leb128_reader::read_plan_number(bytes, at) else {
-        return Taken::Refused(1, at);
-    };
-    let sum = tail as u64 + difference as u64;
-    if vertices as u64 <= sum {
-        return Taken::Refused(4, at);
+    let (difference, next) = leb128_reader::read_plan_number(bytes, at)?;
+    let sum = u64::from(tail) + u64::from(difference);
+    if u64::from(vertices) <= sum {
+        return Err(Cause::Vertex.at(at));
     }
-    Taken::Number(difference, next)
+    Ok((difference, next))
 }
 
-// A head: refusals 1, 4 and 6. The least head counts where the difference of the tails is 0; difference and
-// head are compared with it as one number.
-pub fn take_head(bytes: &[u8], at: usize, vertices: u32, difference: u32, least: u32) -> Taken
+// A head. The least head counts where the difference of the tails is 0; difference and head are compared with it as
+// one number.
+#[tactic(auto, unfolding(graph::specs::Rows::through, graph::specs::Rows::through_all, graph::specs::Rows::take_number, graph::specs::Rows::head_rows), using(crate::proofs::Ranges::below, crate::proofs::Ranges::from))]
+pub fn take_head(
+    bytes: &[u8],
+    at: usize,
+    vertices: u32,
+    difference: u32,
+    least: u32,
+) -> Result<(u32, usize), Refusal>
     ensures { result ≡ take_number bytes.now at (head_rows vertices (cond (eqb difference 0) least 0)) }
 {
-    let NumberRead::Value(head, next) = leb128_reader::read_plan_number(bytes, at) else {
-        return Taken::Refused(1, at);
-    };
+    let (head, next) = leb128_reader::read_plan_number(bytes, at)?;
     if vertices <= head {
-        return Taken::Refused(4, at);
+        return Err(Cause::Vertex.at(at));
     }
-    let found = 4294967296 * (difference as u64) + (head as u64);
-    if found < least as u64 {
-        return Taken::Refused(6, at);
+    let found = 4294967296 * u64::from(difference) + u64::from(head);
+    if found < u64::from(least) {
+        return Err(Cause::Order.at(at));
     }
-    Taken::Number(head, next)
+    Ok((head, next))
 }
 
-// A cost: refusals 1 and 5.
-pub fn take_cost(bytes: &[u8], at: usize) -> Taken
+// A cost.
+#[tactic(auto, using(crate::proofs::Ranges::cost_range))]
+pub fn take_cost(bytes: &[u8], at: usize) -> Result<(u32, usize), Refusal>
     ensures { result ≡ take_number bytes.now at cost_rows }
 {
-    take_in(bytes, at, graph::MAX_COST + 1, 5, 0, 5)
+    let limit = graph::MAX_COST + 1;
+    take_in(bytes, at, limit, Cause::Cost, 0, Cause::Cost)
 }
 
-// A class: refusals 1 and 15.
-pub fn take_class(bytes: &[u8], at: usize) -> Taken
+// A class.
+#[tactic(auto, using(crate::proofs::Ranges::class_range))]
+pub fn take_class(bytes: &[u8], at: usize) -> Result<(u32, usize), Refusal>
     ensures { result ≡ take_number bytes.now at class_rows }
 {
-    take_in(bytes, at, graph::MAX_CLASS + 1, 15, 0, 15)
+    let limit = graph::MAX_CLASS + 1;
+    take_in(bytes, at, limit, Cause::Class, 0, Cause::Class)
 }

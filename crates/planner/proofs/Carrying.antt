@@ -1,34 +1,30 @@
--- A call and lent memory as the code has them: what is carried does not depend on the log, and so functions without one have an empty one.
-use mathlib.Core.Path.{◌≡◌, ap, ◌∙◌}
-use mathlib.Core.List.{List, []}
+-- What is carried, asked and reached, where the same memories are lent on.
+use mathlib.Core.Path.{◌≡◌, refl, sym, ap, ◌∙◌, subst}
+use mathlib.Core.List.{List}
 use Prim.Native.Nat.{ℕ}
-use Rattle.search.specs.declared.Progress.{Progress}
-use Rattle.search.specs.Job.{State}
-use Rattle.search.specs.Rounds.{Stand}
 use Rattle.search.specs.Call.{Memory, Call}
-use Rattle.admission.specs.declared.Query.{Query}
-use Rattle.workspace.specs.declared.Size.{Size}
-use Rattle.planner.specs.declared.Standing.{Standing}
+use Rattle.graph.specs.declared.Size.{Size}
+use Rattle.workspace.specs.declared.Workspace.{Workspace}
+use Rattle.workspace.specs.Space.{LentFor}
+use Rattle.admission.specs.declared.Call.{Call as Asked}
 use Rattle.planner.specs.Plan.{memory_of}
-use Rattle.planner.specs.Carried.{Carries, Stands}
+use Rattle.planner.specs.Carried.{Asking}
+use Rattle.planner.specs.Reached.{Given}
 
--- what a call asks besides slices
-abbrev pub query_of : Call → Query
-query_of c = record { start = c.start; goal = c.goal; barred = c.barred; guides = c.count; budget = c.budget }
+-- a workspace is lent its own memories, and theirs to those after it
+pub lent_same : (s : Workspace) → LentFor s.size s.work s.wide s
+lent_same s = record { size_is = refl; work_is = refl; wide_is = refl }
 
--- memory as a function has it that is not lent the log
-abbrev pub unlogged : Memory → Memory
-unlogged m = memory_of m.route [] m.work m.wide
+pub lent_then : (s s' s'' : Workspace) → LentFor s.size s.work s.wide s' → LentFor s'.size s'.work s'.wide s'' → LentFor s.size s.work s.wide s''
+lent_then s s' s'' e f =
+    record { size_is = f.size_is ∙ e.size_is; work_is = f.work_is ∙ e.work_is; wide_is = f.wide_is ∙ e.wide_is }
 
-pub carries_log :
-    {c : Call} {z : Size} {s : State} {p : Progress} {route log work wide : List ℕ} (log' : List ℕ) → Carries c z s p (memory_of route log work wide) →
-    Carries c z s p (memory_of route log' work wide)
-carries_log log' k = record { ok = k.ok; words = k.words; kept = k.kept; progress = k.progress; turn = k.turn }
+module _ (c : Call) (q : Asked) (s s' : Workspace) (e : LentFor s.size s.work s.wide s') where
+  pub asking_then : Asking c s.size q → Asking c s'.size q
+  asking_then a = subst (λ (z : Size). Asking c z q) (sym e.size_is) a
 
-pub stands_log :
-    {c : Call} {z : Size} {y : Stand} {r : Standing} {route log work wide : List ℕ} (log' : List ℕ) → Stands c z y r (memory_of route log work wide) →
-    Stands c z y r (memory_of route log' work wide)
-stands_log log' k = record { step = k.step; due = k.due; carries = carries_log log' k.carries }
+  pub given_then : Given c q s → Given c q s'
+  given_then g = record { asking = asking_then g.asking; sheets_is = g.sheets_is }
 
 -- memory is the same where its parts are
 pub same_memory : {m m' : Memory} → m.route ≡ m'.route → m.log ≡ m'.log → m.work ≡ m'.work → m.wide ≡ m'.wide → m ≡ m'

@@ -18,20 +18,19 @@ use Rattle.search.specs.declared.Answer.TheVariants.{Route, NoRoute, Unfinished}
 use Rattle.search.specs.Bounds.{max_factor}
 use Rattle.search.specs.Job.{State, Job, factors, route_end}
 use Rattle.search.specs.Rounds.{Stand}
-use Rattle.search.specs.Call.{Memory, Call, schedule_of, pairs, job_of}
+use Rattle.search.specs.Call.{Call, schedule_of, pairs, job_of}
 use Rattle.search.specs.Outcome.{bound, summary, cut_short, answer_at, answer_of}
 use Rattle.search.proofs.Facts.{Valid, InRange}
 use Rattle.search.proofs.Admitted.{admitted, job_schedule}
 use Rattle.search.proofs.Incumbent as kept
 use Rattle.search.proofs.Standing.{Says}
-use Rattle.workspace.specs.declared.Size.{Size}
+use Rattle.graph.specs.declared.Size.{Size}
+use Rattle.workspace.specs.Layout.{Words}
 use Rattle.route.specs.Kept.{up_to_end}
 use Rattle.route.proofs.Counted.{walk_below, incumbent_length}
-use Rattle.admission.specs.declared.Query.{Query}
 use Rattle.planner.specs.declared.Standing.{Standing}
-use Rattle.planner.specs.Carried.{Asking, Carries}
+use Rattle.planner.specs.Carried.{Fits, Carries}
 use Rattle.planner.specs.Finished.{factors_in, summary_in, cut_in, Figured, AtEnd}
-use Rattle.planner.proofs.Carrying.{query_of}
 use Rattle.planner.proofs.Jobs.{job_factors}
 use Rattle.planner.proofs.Asked.{in_range, route_long, small}
 
@@ -65,8 +64,8 @@ module _ (z : Size) (p : Progress) (schedule route : List ℕ) where
 
 -- ---- the figures, of the state in hand
 
-module _ (c : Call) (z : Size) (q : Query) (a : Asking c z q) (s : State) (p : Progress) (schedule route : List ℕ) (m : Memory) (d : schedule ≡ schedule_of c)
-    (o : route ≡ m.route) (k : Carries c z s p m) where
+module _ (c : Call) (z : Size) (a : Fits c z) (s : State) (p : Progress) (schedule route : List ℕ) (m : Words) (d : schedule ≡ schedule_of c)
+    (k : Carries c z s p m route) where
   abbrev job : Job
   job = job_of c
 
@@ -80,7 +79,7 @@ module _ (c : Call) (z : Size) (q : Query) (a : Asking c z q) (s : State) (p : P
       let r : kept.Route job s.incumbent s.progress.cost = k.ok.kept.route some in
       ap (λ (n : ℕ). length (up_to_end (take n route))) a.vertices
       ∙ incumbent_length job s c.memory.route route some r.short (walk_below job.edges job.size v.heads r.walk v.starts)
-      (omega (arith, a.vertices, small c z q a)) (o ∙ k.kept)
+      (omega (arith, a.vertices, small c z a)) k.kept
 
   factors_are : factors_in schedule p.rounds ≡ factors job (s.progress.rounds - 1)
   unfolding factors_in
@@ -94,12 +93,12 @@ module _ (c : Call) (z : Size) (q : Query) (a : Asking c z q) (s : State) (p : P
   summary_is some = rw (length_is (omega (arith, some, rounds_is)), factors_are, k.progress) refl
 
   in_hand : 0 < p.rounds → InRange (factors job (s.progress.rounds - 1)).w1 (factors job (s.progress.rounds - 1)).w2
-  in_hand some = in_range c z q a (s.progress.rounds - 1) (omega (arith, some, rounds_is, k.ok.count))
+  in_hand some = in_range c z a (s.progress.rounds - 1) (omega (arith, some, rounds_is, k.ok.count))
 
   pub figured : Figured z p schedule route
   figured =
       record {
-        room = omega (arith, route_long c z q a s p m k, ap length o);
+        room = route_long c z a s p m route k;
         scheduled =
             omega (
               arith,
@@ -126,22 +125,12 @@ module _ (c : Call) (z : Size) (q : Query) (a : Asking c z q) (s : State) (p : P
 
 -- ---- the answer
 
-module _ (c : Call) (z : Size) (y : Stand) (s : Standing) (schedule route : List ℕ) (m : Memory) (o : route ≡ m.route)
-    (h : AtEnd c z y s schedule m) where
-  asks : Asking c z (query_of c)
-  asks =
-      record {
-        admitted = h.admitted;
-        vertices = h.vertices;
-        edges = sym h.stands.carries.words.edges;
-        start = refl;
-        goal = refl;
-        barred = refl;
-        guides = refl;
-      }
+module _ (c : Call) (z : Size) (y : Stand) (s : Standing) (schedule route : List ℕ) (m : Words) (h : AtEnd c z y s schedule m route) where
+  fits : Fits c z
+  fits = record { admitted = h.admitted; vertices = h.vertices; edges = sym h.stands.carries.words.edges }
 
   pub end_figured : Figured z s.progress schedule route
-  end_figured = figured c z (query_of c) asks y.state s.progress schedule route m h.schedule_is o h.stands.carries
+  end_figured = figured c z fits y.state s.progress schedule route m h.schedule_is h.stands.carries
 
   at_step : (t : Step) → s.step ≡ t → answer_of (job_of c) y ≡ answer_at (job_of c) t y.state
   unfolding answer_of
@@ -160,11 +149,11 @@ module _ (c : Call) (z : Size) (y : Stand) (s : Standing) (schedule route : List
   pub answers_route : (r : Summary) → s.step ≡ Finished → r ≡ summary_in z s.progress schedule route → Route r ≡ answer_of (job_of c) y
   unfolding answer_at
   answers_route r e f =
-      ap Route (f ∙ summary_is c z (query_of c) asks y.state s.progress schedule route m h.schedule_is o h.stands.carries (some_round e))
+      ap Route (f ∙ summary_is c z fits y.state s.progress schedule route m h.schedule_is h.stands.carries (some_round e))
       ∙ sym (at_step Finished e)
 
   pub answers_cut : (r : Answer) (n a : ℕ) → s.step ≡ Due n a → r ≡ cut_in z s.progress schedule route → r ≡ answer_of (job_of c) y
   unfolding answer_at
   answers_cut r n a e f =
-      f ∙ cut_is c z (query_of c) asks y.state s.progress schedule route m h.schedule_is o h.stands.carries
+      f ∙ cut_is c z fits y.state s.progress schedule route m h.schedule_is h.stands.carries
       ∙ sym (at_step (Due n a) e)

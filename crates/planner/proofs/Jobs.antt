@@ -6,6 +6,7 @@ use mathlib.Core.List.{List, [], ◌∷◌}
 use lib.ListN.{length, get_or}
 use lib.Dec.{eqb, ltb}
 use mir.Facts.{eqb_no, ltb_yes}
+use Rattle.graph.specs.declared.refusal.Cause.{Cause}
 use Rattle.graph.specs.declared.Edge.{Edge}
 use Rattle.graph.specs.Plan.{Decoded, accepted, refused, decode}
 use Rattle.graph.specs.Lists.{none, fault}
@@ -91,7 +92,7 @@ pub record Accepted (c : Call) : Type 0 where
   pub plan : decode c.bytes ≡ accepted v es
   pub rows : fault_in c (accepted v es) ≡ none
 
-fault≢none : {n p : ℕ} → fault n p ≡ none → ⊥
+fault≢none : {n : Cause} {p : ℕ} → fault n p ≡ none → ⊥
 fault≢none h = let z : ◌≡◌ {A = ℕ} 0 1 = cc in omega arith
 
 accepted_by : (c : Call) (d : Decoded) → decode c.bytes ≡ d → fault_in c d ≡ none → Accepted c

@@ -8,10 +8,11 @@ use Rattle.search.specs.declared.Answer.{Answer}
 use Rattle.search.specs.declared.Answer.TheVariants.{Route, Unfinished}
 use Rattle.search.specs.Bounds.{max_factor}
 use Rattle.search.specs.Rounds.{Stand}
-use Rattle.search.specs.Call.{Memory, Call, schedule_of, pairs, fault_of, job_of}
+use Rattle.search.specs.Call.{Call, schedule_of, pairs, fault_of, job_of}
 use Rattle.search.specs.Outcome.{answer_of}
 use Rattle.search.proofs.Standing.{Good}
-use Rattle.workspace.specs.declared.Size.{Size}
+use Rattle.graph.specs.declared.Size.{Size}
+use Rattle.workspace.specs.Layout.{Words}
 use Rattle.route.specs.Kept.{up_to_end}
 use Rattle.planner.specs.declared.Standing.{Standing}
 use Rattle.planner.specs.Carried.{Stands}
@@ -46,21 +47,20 @@ pub record Figured (z : Size) (p : Progress) (schedule route : List ℕ) : Type 
 -- ---- the answer
 
 -- a call that is not refused, where its search stands at y
-pub record AtEnd (c : Call) (z : Size) (y : Stand) (s : Standing) (schedule : List ℕ) (m : Memory) : Type 0 where
+pub record AtEnd (c : Call) (z : Size) (y : Stand) (s : Standing) (schedule : List ℕ) (m : Words) (route : List ℕ) : Type 0 where
   pub admitted : fault_of c ≡ none
   pub vertices : z.vertices ≡ (job_of c).size
   pub schedule_is : schedule ≡ schedule_of c
-  pub stands : Stands c z y s m
+  pub stands : Stands c z y s m route
   pub good : Good (job_of c) y
 
 -- what it asks
 pub record Finishing (z : Size) (s : Standing) (schedule route : List ℕ) : Type 0 where
   pub call : Call
   pub stand : Stand
-  pub memory : Memory
-  pub route_is : route ≡ memory.route
-  pub at_end : AtEnd call z stand s schedule memory
+  pub words : Words
+  pub at_end : AtEnd call z stand s schedule words route
 
--- what it answers, whatever the call, the stand and the rest of lent memory are
+-- what it answers, whatever the call, the stand and the work memories are
 pub record Finishes (z : Size) (s : Standing) (schedule route : List ℕ) (r : Answer) : Type 0 where
-  pub finishes : (c : Call) (y : Stand) (m : Memory) → route ≡ m.route → AtEnd c z y s schedule m → r ≡ answer_of (job_of c) y
+  pub finishes : (c : Call) (y : Stand) (m : Words) → AtEnd c z y s schedule m route → r ≡ answer_of (job_of c) y

@@ -3,10 +3,11 @@ ghost use Rattle.std.specs.Prelude.{◌≡◌, ◌<◌};
 ghost use Rattle.planner.specs.Finished.{summary_in, cut_in, Figured, Finishing, Finishes};
 
 use crate::Standing;
+use graph::Size;
 use search::{Answer, Progress, Step, Summary};
-use workspace::Size;
 
 // The figures of the incumbent, where a round is finished: the bound is that of the last one.
+#[tactic(auto, using(crate::proofs::Finishing::figures_are))]
 fn summary(route: &[u32], schedule: &[u32], z: Size, p: Progress) -> Summary
     requires { Figured z p schedule.now route.now × (0 < p.rounds) }
     ensures { result ≡ summary_in z p schedule.now route.now }
@@ -24,6 +25,7 @@ fn summary(route: &[u32], schedule: &[u32], z: Size, p: Progress) -> Summary
 }
 
 // The budget ended a round: the first, or a later one.
+#[tactic(auto, unfolding(crate::specs::Finished::cut_in))]
 fn cut_short(route: &[u32], schedule: &[u32], z: Size, p: Progress) -> Answer
     requires { Figured z p schedule.now route.now }
     ensures { result ≡ cut_in z p schedule.now route.now }

@@ -1,23 +1,16 @@
--- Laws of the texts of a list's elements one after another: one more, none too many, and how far they reach.
-use Prim.Native.Nat.{ℕ, zero, suc, ◌+◌, ◌<◌, ◌≤◌, min}
+-- Laws of the texts of a list's elements written one after another: none, one more, and all.
+use Prim.Native.Nat.{ℕ, zero, suc, ◌+◌, ◌<◌, ◌≤◌}
 use native.Mathlib.Numerals.{add-one}
 use native.Mathlib.Omega.{arith}
-use native.Mathlib.Decide.{dec_le}
 use mathlib.Core.Path.{◌≡◌, sym, ap, ◌∙◌}
 use mathlib.Core.List.{List, [], ◌∷◌, ◌++◌, append_assoc, append-nil}
 use lib.ListN.{length, get_or, take, length-append}
 use lib.Seq.{take-suc, take_all, length-take-le}
-use Rattle.text.specs.Laid.{Put, Counted}
+use Rattle.text.specs.Laid.{Counted}
 use Rattle.text.specs.Text.{each}
-use Rattle.text.proofs.Laid.{put_nil, then_put}
-
--- as many as there are
-pub take_lesser : (count i : ℕ) (xs : List ℕ) → i ≡ min count (length xs) → take i xs ≡ take count xs
-take_lesser count i xs e =
-    elim (dec_le count (length xs)) [
-      | yes h ↦ let c : i ≡ count = omega arith in ap (λ (n : ℕ). take n xs) c
-      | no h ↦ take_all i xs (omega arith) ∙ sym (take_all count xs (omega arith))
-    ]
+use Rattle.printing.specs.declared.writer.Writer.{Writer}
+use Rattle.printing.specs.Writing.{Wrote}
+use Rattle.printing.proofs.Writing.{wrote_nil, then_wrote}
 
 module _ (f : ℕ → ℕ → List ℕ) where
   -- one more at the end
@@ -30,12 +23,11 @@ module _ (f : ℕ → ℕ → List ℕ) where
       ∙ sym (append_assoc (f k y) (each f (suc k) a) (f (k + suc (length a)) x))
 
   -- fewer elements are no longer a text
-  each_fewer : (k i j : ℕ) (xs : List ℕ) → i ≤ j → length (each f k (take i xs)) ≤ length (each f k (take j xs))
+  each_fewer : (k i : ℕ) (xs : List ℕ) → length (each f k (take i xs)) ≤ length (each f k xs)
   unfolding each
-  each_fewer k zero j xs h = omega arith
-  each_fewer k (suc i) zero xs h = absurd (omega arith)
-  each_fewer k (suc i) (suc j) [] h = omega arith
-  each_fewer k (suc i) (suc j) (x ∷ xs) h = simp length-append (omega (arith, each_fewer (suc k) i j xs (omega arith)))
+  each_fewer k zero xs = omega arith
+  each_fewer k (suc i) [] = omega arith
+  each_fewer k (suc i) (x ∷ xs) = simp length-append (omega (arith, each_fewer (suc k) i xs))
 
   module _ (k i : ℕ) (xs : List ℕ) (h : i < length xs) where
     each_next : each f k (take (i + 1) xs) ≡ each f k (take i xs) ++ f (k + i) (get_or xs i 0)
@@ -44,25 +36,29 @@ module _ (f : ℕ → ℕ → List ℕ) where
         (each_snoc k (take i xs) (get_or xs i 0)
         ∙ ap (λ (n : ℕ). each f k (take i xs) ++ f (k + n) (get_or xs i 0)) (length-take-le i xs (omega arith)))
 
-    -- one more put
+    -- one more written
     pub next_each :
-        {at : ℕ} {old : List ℕ} {m : ℕ} {mid : List ℕ} {end : ℕ} {new : List ℕ} → Put at (each f k (take i xs)) old m mid →
-        Put m (f (k + i) (get_or xs i 0)) mid end new → Put at (each f k (take (i + 1) xs)) old end new
-    next_each first second = rw each_next (then_put first second)
+        {old mid new : Writer} → Wrote (each f k (take i xs)) old mid → Wrote (f (k + i) (get_or xs i 0)) mid new →
+        Wrote (each f k (take (i + 1) xs)) old new
+    next_each first second = rw each_next (then_wrote first second)
 
-    -- it ends where the first n do, or before
+    -- it ends where all do, or before
     pub each_counted :
-        (count : ℕ) {at : ℕ} {old : List ℕ} {m : ℕ} {mid : List ℕ} → i < count → Put at (each f k (take i xs)) old m mid →
-        Counted at (each f k (take count xs)) → Counted m (f (k + i) (get_or xs i 0))
-    each_counted count l first p =
+        {old mid : Writer} → Wrote (each f k (take i xs)) old mid → Counted old.at (each f k xs) → Counted mid.at (f (k + i) (get_or xs i 0))
+    each_counted first p =
         omega (
           arith,
+          first.put.next,
           ap length each_next,
           length-append (each f k (take i xs)) (f (k + i) (get_or xs i 0)),
-          each_fewer k (i + 1) count xs (omega arith),
+          each_fewer k (i + 1) xs,
         )
 
-  -- none put
-  pub none_each : (k at : ℕ) (xs old : List ℕ) → Put at (each f k (take 0 xs)) old at old
+  -- none written
+  pub none_each : (k : ℕ) (w : Writer) → Wrote (each f k []) w w
   unfolding each
-  none_each k at xs old = put_nil at old
+  none_each k w = wrote_nil w
+
+  -- all written
+  pub all_each : (k i : ℕ) (xs : List ℕ) {old new : Writer} → length xs ≤ i → Wrote (each f k (take i xs)) old new → Wrote (each f k xs) old new
+  all_each k i xs h w = rw (take_all i xs h) at w

@@ -1,2 +1,4 @@
+pub mod Writing
 pub mod Each
+pub mod Answered
 pub mod Reasons

@@ -1,11 +1,12 @@
 -- The printed text of an answer, of a refusal and of an explanation in a lent buffer: for the contracts of this crate alone, nothing that a reader must believe.
-use Rattle.std.specs.Prelude.{ℕ, ◌<◌, ◌≤◌, ◌≡◌, List, ◌++◌, length, get_or, take}
+use Rattle.std.specs.Prelude.{ℕ, ◌<◌, ◌≤◌, ◌≡◌, List, ◌++◌, length, get_or, take, Result}
 use Rattle.graph.specs.declared.Edge.{Edge}
+use Rattle.graph.specs.declared.refusal.Refusal.{Refusal}
 use Rattle.text.specs.Text.{refused_line}
 use Rattle.search.specs.declared.Answer.{Answer}
 use Rattle.search.specs.declared.Explanation.{Explanation}
 use Rattle.search.specs.Outcome.{no_route, figures}
-use Rattle.workspace.specs.declared.Size.{Size}
+use Rattle.graph.specs.declared.Size.{Size}
 use Rattle.workspace.specs.Layout.{graph_of, Whole}
 use Rattle.job.specs.Reading.{max_job_vertices, max_job_edges}
 use Rattle.job.specs.Asked.{route_size}
@@ -13,7 +14,7 @@ use Rattle.job.specs.Printed.{last_lines, printed}
 use Rattle.job.specs.Explained.{edge_line, reason_lines}
 use Rattle.job.specs.Texts.{Texts}
 
-abbrev pub Shown : Answer → List ℕ → List ℕ → List ℕ → ℕ → List ℕ → Type 0
+abbrev pub Shown : Result Answer Refusal → List ℕ → List ℕ → List ℕ → ℕ → List ℕ → Type 0
 Shown a route log old r new = Texts (printed (figures a) route log) old r new
 
 abbrev pub Refuses : ℕ → ℕ → List ℕ → ℕ → List ℕ → Type 0

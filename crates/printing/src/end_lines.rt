@@ -1,44 +1,71 @@
-// The lines that end printed text, a search's end or a refusal, put into a lent buffer from an offset on as far as there is room.
+// The lines that end printed text, a search's end or a refusal, and the text of a search.
+#![tactic(auto, unfolding(text::specs::Text::ascii, text::specs::Text::field, text::specs::Text::end_line, text::specs::Text::refused_line))]
+
 ghost use Rattle.std.specs.Prelude.{◌++◌};
-ghost use Rattle.text.specs.Laid.{Put, Counted};
+ghost use Rattle.text.specs.Laid.{Counted};
 ghost use Rattle.text.specs.Text.{newline, field, end_line, refused_line};
+ghost use Rattle.printing.specs.Writing.{Wrote, route_end, route_text, turns_text};
 
-use crate::buffer;
+use crate::lines::first;
+use crate::writer::Writer;
+use search::Summary;
 
-// The end of a search that found a route: the incumbent's cost, finished rounds, turns, and the bound.
-pub fn put_end_line(
-    out: &mut [u8],
-    at: usize,
-    cost: u64,
-    rounds: u64,
-    turns: u64,
-    bound: u64,
-) -> usize
-    requires { Counted at (end_line cost rounds turns bound) }
-    ensures { Put at (end_line cost rounds turns bound) out.old result out.new }
-{
-    let after_cost = buffer::put_field(out, at, b"end cost ", cost);
-    let after_rounds = buffer::put_field(out, after_cost, b" rounds ", rounds);
-    let after_turns = buffer::put_field(out, after_rounds, b" turns ", turns);
-    let after_bound = buffer::put_field(out, after_turns, b" bound ", bound);
-    buffer::put_byte(out, after_bound, b'\n')
-}
+impl Writer<'_> {
+    // The end of a search that found a route: the incumbent's cost, finished rounds, turns, and the bound.
+    pub(crate) fn end_line(&mut self, summary: Summary)
+        requires { Counted self.old.at (end_line summary.cost summary.rounds summary.expansions summary.bound) }
+        ensures { Wrote (end_line summary.cost summary.rounds summary.expansions summary.bound) self.old self.new }
+    {
+        self.field(b"end cost ", summary.cost);
+        self.field(b" rounds ", u64::from(summary.rounds));
+        self.field(b" turns ", u64::from(summary.expansions));
+        self.field(b" bound ", u64::from(summary.bound));
+        self.byte(b'\n');
+    }
 
-// The end of a search without a route: words, and after them the turns.
-pub fn put_turns_line(out: &mut [u8], at: usize, words: &[u8], turns: u64) -> usize
-    requires { Counted at (field words.now turns ++ newline) }
-    ensures { Put at (field words.now turns ++ newline) out.old result out.new }
-{
-    let after = buffer::put_field(out, at, words, turns);
-    buffer::put_byte(out, after, b'\n')
-}
+    // The end of a search without a route: words, and after them the turns.
+    pub(crate) fn turns_line(&mut self, words: &[u8], turns: u32)
+        requires { Counted self.old.at (field words.now turns ++ newline) }
+        ensures { Wrote (field words.now turns ++ newline) self.old self.new }
+    {
+        self.field(words, u64::from(turns));
+        self.byte(b'\n');
+    }
 
-// A refusal: its number and its position.
-pub fn put_refused_line(out: &mut [u8], at: usize, number: u64, position: u64) -> usize
-    requires { Counted at (refused_line number position) }
-    ensures { Put at (refused_line number position) out.old result out.new }
-{
-    let after_number = buffer::put_field(out, at, b"refused ", number);
-    let end = buffer::put_field(out, after_number, b" at ", position);
-    buffer::put_byte(out, end, b'\n')
+    // A refusal: its number and its position.
+    pub(crate) fn refused_line(&mut self, number: u32, position: usize)
+        requires { Counted self.old.at (refused_line number position) }
+        ensures { Wrote (refused_line number position) self.old self.new }
+    {
+        self.field(b"refused ", u64::from(number));
+        self.field(b" at ", position as u64);
+        self.byte(b'\n');
+    }
+
+    // How the text of a route ends: the route line and the end line.
+    pub(crate) fn route_end(&mut self, summary: Summary, route: &[u32])
+        requires { Counted self.old.at (route_end summary route.now) }
+        ensures { Wrote (route_end summary route.now) self.old self.new }
+    {
+        self.vertices_line(b"route", first(route, summary.length));
+        self.end_line(summary);
+    }
+
+    // A route: the turn lines, the route line and the end line.
+    pub(crate) fn route(&mut self, summary: Summary, route: &[u32], log: &[u32])
+        requires { Counted self.old.at (route_text summary route.now log.now) }
+        ensures { Wrote (route_text summary route.now log.now) self.old self.new }
+    {
+        self.turn_lines(first(log, summary.expansions));
+        self.route_end(summary, route);
+    }
+
+    // No route, or unfinished: the turn lines, and the line whose words say so.
+    pub(crate) fn no_route(&mut self, words: &[u8], turns: u32, log: &[u32])
+        requires { Counted self.old.at (turns_text words.now turns log.now) }
+        ensures { Wrote (turns_text words.now turns log.now) self.old self.new }
+    {
+        self.turn_lines(first(log, turns));
+        self.turns_line(words, turns);
+    }
 }

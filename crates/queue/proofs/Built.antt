@@ -1,5 +1,5 @@
 -- All tables cleared, one after another; then the vertices entered, one after another.
-use mathlib.Core.Path.{◌≡◌, refl, ◌∙◌, subst}
+use mathlib.Core.Path.{◌≡◌, ◌∙◌, subst}
 use mathlib.Core.List.{List, ◌∷◌, append-nil}
 use Prim.Native.Nat.{ℕ, zero, suc, ◌+◌, ◌-◌, ◌*◌, ◌≤◌, ◌<◌}
 use native.Mathlib.Nat.{mul-le-mul_right}
@@ -12,17 +12,34 @@ use Rattle.search.specs.declared.Vertex.{Vertex}
 use Rattle.search.specs.Job.{fresh, at}
 use Rattle.search.specs.Turn.{offered}
 use Rattle.search.proofs.Tools.{same_cases}
-use Rattle.workspace.specs.declared.Size.{Size}
+use Rattle.graph.specs.declared.Size.{Size}
 use Rattle.workspace.specs.Layout.{Words, vertices_of}
 use Rattle.workspace.proofs.Written.{length_vertices_of}
 use Rattle.heap.specs.Words.{cleared}
 use Rattle.heap.proofs.Lengths.{length_cleared}
 use Rattle.heap.proofs.Same.{cleared_heap}
+use Rattle.queue.specs.declared.Queues.{Queues as Lent}
 use Rattle.queue.specs.declared.Tables.{Tables}
+use Rattle.queue.specs.Methods.{Made, Same}
 use Rattle.queue.specs.Parts.{Heaps, part_of, with_table, Tabled, Cleared, table_of}
 use Rattle.queue.specs.Table.{want_of}
 use Rattle.queue.specs.Queues.{Narrow, Queues, Building, first_only, Entering, Storing, Stored}
 use Rattle.queue.proofs.Pieces.{length_part, table_words, table_count, words_length, other_words, other_count}
+
+-- ---- what two methods keep, one after another
+
+pub made_then : (v : ℕ) (a b c : Lent) → Made v a b → Same b c → Made v a c
+made_then v a b c x y =
+    record {
+      heap = y.heap ∙ x.heap;
+      counts = y.counts ∙ x.counts;
+      words = y.words ∙ x.words;
+      tallies = y.tallies ∙ x.tallies;
+      anchor = y.anchor ∙ x.anchor;
+      guides = y.guides ∙ x.guides;
+      vertices = y.vertices ∙ x.vertices;
+      tables = y.tables ∙ x.tables;
+    }
 
 -- ---- the loop that clears the tables of h₀, where table k is next
 
@@ -32,9 +49,6 @@ pub record Clearing (v k : ℕ) (h₀ h : Heaps) : Type 0 where
   pub done : Cleared v k h
 
 module _ (v : ℕ) (h₀ : Heaps) where
-  pub clearing_none : Clearing v 0 h₀ h₀
-  clearing_none = record { same_words = refl; same_counts = refl; done = record { empty = λ i l a n. absurd (omega arith) } }
-
   module _ (g k : ℕ) (h : Heaps) (counts : g < length h₀.counts) (words : suc g * (3 * v) ≤ length h₀.words) (c : Clearing v k h₀ h) (more : k < g + 1) where
     there : (i : ℕ) → i ≤ g → Tabled v i h
     there i l = record { count = omega (arith, c.same_counts, counts); room = omega (arith, c.same_words, words, mul-le-mul_right (3 * v) l) }
@@ -113,10 +127,8 @@ module _ (st : List Vertex) where
 
 -- ---- the loop that enters them into the heaps of h₀, where vertex s is next
 
-pub record Entered (z : Size) (t : Tables) (anchor sheets : List ℕ) (m : Words) (h₀ : Heaps) (s : ℕ) (h : Heaps) : Type 0 where
+pub record Entered (z : Size) (t : Tables) (anchor sheets : List ℕ) (m : Words) (s : ℕ) (h : Heaps) : Type 0 where
   pub most : s ≤ z.vertices
-  pub same_words : length h.words ≡ length h₀.words
-  pub same_counts : length h.counts ≡ length h₀.counts
   pub queues : Queues z.vertices t anchor sheets (first_only s (vertices_of z m)) h
 
 module _ (z : Size) (t : Tables) (anchor sheets : List ℕ) (m : Words) where
@@ -131,13 +143,11 @@ module _ (z : Size) (t : Tables) (anchor sheets : List ℕ) (m : Words) where
 
   pub entered_none :
       (h₀ h : Heaps) → Building z t anchor sheets m h₀ → Narrow v anchor sheets → length h.words ≡ length h₀.words →
-      length h.counts ≡ length h₀.counts → Cleared v (suc t.guides) h → Entered z t anchor sheets m h 0 h
+      length h.counts ≡ length h₀.counts → Cleared v (suc t.guides) h → Entered z t anchor sheets m 0 h
   unfolding want_of offered
   entered_none h₀ h b n lw lc c =
       record {
         most = omega arith;
-        same_words = refl;
-        same_counts = refl;
         queues =
             record {
               source = b.source;
@@ -170,17 +180,7 @@ module _ (z : Size) (t : Tables) (anchor sheets : List ℕ) (m : Words) where
     entered_more h' e =
         subst (λ (l : List Vertex). Queues v t anchor sheets l h') (rw is (first_more st s inside)) (e.stored (first_only s st) y.queues (first_fresh st s inside))
 
-  module _ (h₀ : Heaps) (s : ℕ) (h : Heaps) (e : Entered z t anchor sheets m h₀ s h) where
-    pub entered_next : (l : Heaps) → Building z t anchor sheets m l → s < v → Entering z t anchor sheets m s h
-    entered_next l b k = record { memory = b.memory; priced = b.priced; small = k; queues = e.queues }
-
-    pub entered_then :
-        (h' : Heaps) → s < v → length h'.words ≡ length h.words → length h'.counts ≡ length h.counts →
-        Queues v t anchor sheets (first_only (suc s) st) h' → Entered z t anchor sheets m h₀ (s + 1) h'
-    entered_then h' k lw lc q =
-        let n : s + 1 ≡ suc s = omega arith in
-        rw n (record { most = k; same_words = lw ∙ e.same_words; same_counts = lc ∙ e.same_counts; queues = q })
-
+  module _ (s : ℕ) (h : Heaps) (e : Entered z t anchor sheets m s h) where
     pub entered_all : v ≤ s → Queues v t anchor sheets st h
     entered_all l =
         subst (λ (x : List Vertex). Queues v t anchor sheets x h) (first_all st s (omega (arith, e.most, whole))) e.queues

@@ -15,16 +15,19 @@ use Rattle.search.specs.Job.{at}
 use Rattle.search.specs.Turn.{offered}
 use Rattle.search.proofs.Tools.{same_cases, le_cases}
 use Rattle.heap.specs.Words.{updated, counted}
-use Rattle.heap.specs.Heap.{Heap, Updatable}
+use Rattle.heap.specs.Heap.{Heap, Safe, Updatable}
+use Rattle.std.specs.Prelude.{Option}
+use Rattle.std.specs.Option.{is_some, unwrap_or}
+use Rattle.queue.specs.Offers.{Offers}
 use Rattle.heap.proofs.Lengths.{length_updated}
 use Rattle.heap.proofs.Updating.{updated_heap}
 use Rattle.heap.proofs.Same.{heap_alike}
 use Rattle.queue.specs.declared.Tables.{Tables}
 use Rattle.queue.specs.Parts.{Heaps, part_of, with_table, Tabled, table_of}
 use Rattle.queue.specs.Table.{want_of, entry_for}
-use Rattle.queue.specs.Queues.{HeapRoom, Queue, Queues, Between, StoringIn, StoredIn, StoringGuides, StoredGuides, Storing, Stored}
+use Rattle.queue.specs.Queues.{HeapRoom, Queue, Queues, Between, StoringIn, StoredIn, StoredGuides, Storing, Stored}
 use Rattle.queue.proofs.Pieces.{length_part, table_words, table_count, words_length, other_words, other_count}
-use Rattle.queue.proofs.OneTable.{updatable, entry_of, but_one, now_is, stays}
+use Rattle.queue.proofs.OneTable.{safe_heap, updatable, entry_of, but_one, now_is, stays}
 
 pub tabled : (v : ℕ) (t : Tables) (h : Heaps) → HeapRoom v t h → (i : ℕ) → i ≤ t.guides → Tabled v i h
 tabled v t h r i l = record { count = omega (arith, r.counts); room = omega (arith, r.words, mul-le-mul_right (3 * v) l) }
@@ -53,6 +56,9 @@ module _ (v : ℕ) (t : Tables) (anchor sheets : List ℕ) (s : ℕ) (x : Vertex
 
   sized_part : length w ≡ 3 * v
   sized_part = length_part v k h.words (there k last).room
+
+  pub asks_safe : Safe v n w
+  asks_safe = safe_heap v (want_of k t.w1 hs st) n w b.source.few (omega (arith, sized_part)) (b.old k (omega arith) last)
 
   pub asks_update : Updatable v n s on e w
   asks_update =
@@ -105,21 +111,21 @@ module _ (v : ℕ) (t : Tables) (anchor sheets : List ℕ) (s : ℕ) (x : Vertex
 
 -- as the code does it
 module _ (v : ℕ) (t : Tables) (anchor sheets : List ℕ) (k s : ℕ) (x : Vertex) (h : Heaps) (y : StoringIn v t anchor sheets k s x h) where
-  pub sheet_there : k * v ≤ length sheets
-  sheet_there = omega (arith, mul-le-mul_right v y.last, y.between.source.sheeted)
-
   pub table_there : Tabled v k h
   table_there = tabled v t h y.between.room k y.last
 
-  module _ (n e : ℕ) (on : Bool) (en : n ≡ get_or (table_of v anchor sheets k) s 0) (eo : on ≡ offered k n x) (ee : e ≡ entry_for t.w1 n x s on) where
-    pub update_asks : Updatable v (get_or h.counts k 0) s on e (part_of v k h.words)
-    update_asks = rw (ee, eo, en) (asks_update v t anchor sheets s x k y.vertices h y.last y.between)
+  pub safe_there : Safe v (get_or h.counts k 0) (part_of v k h.words)
+  safe_there = asks_safe v t anchor sheets s x k y.vertices h y.last y.between
+
+  module _ (r : Option ℕ) (o : Offers k t.w1 (get_or (table_of v anchor sheets k) s 0) x s r) where
+    pub update_asks : Updatable v (get_or h.counts k 0) s (is_some r) (unwrap_or r 0) (part_of v k h.words)
+    update_asks = rw (o.entry, o.on) (asks_update v t anchor sheets s x k y.vertices h y.last y.between)
 
     pub stored_in :
         (h' : Heaps) →
-        h' ≡ with_table v k (updated v (get_or h.counts k 0) s on e (part_of v k h.words)) (counted (get_or h.counts k 0) s on (part_of v k h.words)) h →
+        h' ≡ with_table v k (updated v (get_or h.counts k 0) s (is_some r) (unwrap_or r 0) (part_of v k h.words)) (counted (get_or h.counts k 0) s (is_some r) (part_of v k h.words)) h →
         StoredIn v t anchor sheets k s x h h'
-    stored_in h' q = record { stored = λ st b. rw (q, ee, eo, en) (one_table v t anchor sheets s x k st h y.last b) }
+    stored_in h' q = record { stored = λ st b. rw (q, o.entry, o.on) (one_table v t anchor sheets s x k st h y.last b) }
 
 -- ---- the guides' tables, one after another
 
@@ -127,37 +133,13 @@ module _ (v : ℕ) (t : Tables) (anchor sheets : List ℕ) (k s : ℕ) (x : Vert
 pub record Walking (v : ℕ) (t : Tables) (anchor sheets : List ℕ) (s : ℕ) (x : Vertex) (h₀ : Heaps) (k : ℕ) (h : Heaps) : Type 0 where
   pub some : 1 ≤ k
   pub most : k ≤ suc t.guides
-  pub same_counts : length h.counts ≡ length h₀.counts
-  pub same_words : length h.words ≡ length h₀.words
   pub so_far : (st : List Vertex) → Between v t anchor sheets s x 1 st h₀ → Between v t anchor sheets s x k st h
 
-module _ (v : ℕ) (t : Tables) (anchor sheets : List ℕ) (s : ℕ) (x : Vertex) (h₀ : Heaps) where
-  pub walking_none : Walking v t anchor sheets s x h₀ 1 h₀
-  walking_none = record { some = omega arith; most = omega arith; same_counts = refl; same_words = refl; so_far = λ st b. b }
-
-  module _ (k : ℕ) (h : Heaps) (z : Walking v t anchor sheets s x h₀ k h) where
-    module _ (more : k < t.guides + 1) where
-      pub walking_in : StoringGuides v t anchor sheets s x h₀ → StoringIn v t anchor sheets k s x h
-      walking_in y = record { vertices = y.vertices; last = omega arith; between = z.so_far y.vertices y.between }
-
-      pub walking_more :
-          (h' : Heaps) → length h'.counts ≡ length h.counts → length h'.words ≡ length h.words →
-          StoredIn v t anchor sheets k s x h h' → Walking v t anchor sheets s x h₀ (k + 1) h'
-      walking_more h' lc lw y =
-          let e : k + 1 ≡ suc k = omega arith in
-          rw e
-          (record {
-            some = omega arith;
-            most = omega arith;
-            same_counts = lc ∙ z.same_counts;
-            same_words = lw ∙ z.same_words;
-            so_far = λ st b. y.stored st (z.so_far st b);
-          })
-
-    pub walking_all : t.guides + 1 ≤ k → StoredGuides v t anchor sheets s x h₀ h
-    walking_all l =
-        let e : k ≡ suc t.guides = omega (arith, z.most) in
-        record { stored = λ st b. rw e at (z.so_far st b) }
+module _ (v : ℕ) (t : Tables) (anchor sheets : List ℕ) (s : ℕ) (x : Vertex) (h₀ : Heaps) (k : ℕ) (h : Heaps) (z : Walking v t anchor sheets s x h₀ k h) where
+  pub walking_all : t.guides + 1 ≤ k → StoredGuides v t anchor sheets s x h₀ h
+  walking_all l =
+      let e : k ≡ suc t.guides = omega (arith, z.most) in
+      record { stored = λ st b. rw e at (z.so_far st b) }
 
 -- ---- all tables
 
@@ -215,9 +197,6 @@ module _ (v : ℕ) (t : Tables) (anchor sheets : List ℕ) (s : ℕ) (old x : Ve
         old = λ i l m. q.each i m;
       }
 
-  pub store_anchor : StoringIn v t anchor sheets 0 s x h
-  store_anchor = record { vertices = y.vertices; last = omega arith; between = between_none y.vertices y.queues y.is }
-
   pub stored_none : (old.opened || x.opened) ≡ false → Stored v t anchor sheets s old x h h
   stored_none e =
       record {
@@ -228,9 +207,6 @@ module _ (v : ℕ) (t : Tables) (anchor sheets : List ℕ) (s : ℕ) (old x : Ve
       }
 
   module _ (h₁ : Heaps) (one : StoredIn v t anchor sheets 0 s x h h₁) where
-    pub store_rest : StoringGuides v t anchor sheets s x h₁
-    store_rest = record { vertices = y.vertices; between = one.stored y.vertices (between_none y.vertices y.queues y.is) }
-
     pub stored_anchor : (old.inad && x.inad) ≡ true → Stored v t anchor sheets s old x h h₁
     stored_anchor e =
         record {

@@ -15,13 +15,15 @@ use Rattle.search.specs.Job.{at}
 use Rattle.search.specs.Turn.{key, offered}
 use Rattle.search.proofs.Tools.{cond_ind, same_cases, le_cases, T_true, at_set_same, at_set_other}
 use Rattle.heap.specs.Words.{packed, vertex_of}
-use Rattle.heap.specs.Heap.{Want, Heap, Updatable}
+use Rattle.heap.specs.Heap.{Want, Heap, Safe, Updatable}
 use Rattle.heap.proofs.Contents.{But}
 use Rattle.heap.proofs.Updating.{Now, fits, room_for, stood_in, stood_out}
 use Rattle.heap.proofs.Same.{Alike}
 use Rattle.queue.specs.Parts.{sheet, table_of}
 use Rattle.queue.specs.Table.{want_of, entry_for}
 use Rattle.queue.specs.Queues.{Narrow}
+use Rattle.queue.specs.Offers.{Offers}
+use Rattle.std.specs.Prelude.{Some, None}
 
 -- ---- a table's number
 
@@ -47,11 +49,26 @@ narrow v anchor sheets f g i s =
     rw (get_or-eq_default (take v (drop ((i - 1) * v) sheets)) 0 k) (omega arith))
     (λ l. rw (get_or-take v (drop ((i - 1) * v) sheets) s 0 l, get_or-drop ((i - 1) * v) sheets s 0) (g ((i - 1) * v + s))))
 
-pub sheet_end : (v i : ℕ) → i ≢ 0 → (i - 1) * v + v ≡ i * v
-sheet_end v zero h = absurd (h refl)
-sheet_end v (suc i) h = let e : suc i - 1 ≡ i = omega arith in rw e (omega arith)
+-- ---- what a table is offered
+
+module _ (i w1 h : ℕ) (x : Vertex) (s : ℕ) where
+  pub closed : x.opened ≡ false → Offers i w1 h x s None
+  unfolding offered entry_for
+  closed e = record { on = rw e refl; entry = refl }
+
+  module _ (n : ℕ) (same : n ≡ h) (b : Bool) (is : b ≡ offered i n x) where
+    pub offers_some : b ≡ true → (e : ℕ) → e ≡ packed (key w1 n x) s → Offers i w1 h x s (Some e)
+    unfolding entry_for
+    offers_some t e q = record { on = sym (sym (rw same at is) ∙ t); entry = rw same at q }
+
+    pub offers_none : b ≡ false → Offers i w1 h x s None
+    unfolding entry_for
+    offers_none f = record { on = sym (sym (rw same at is) ∙ f); entry = refl }
 
 -- ---- what the heap asks
+
+pub safe_heap : (v : ℕ) (a : Want) (n : ℕ) (w : List ℕ) → v ≤ 4096 → 3 * v ≤ length w → Heap v a n w → Safe v n w
+safe_heap v a n w few room y = record { few = few; fit = fits v a n w y; room = room; each = λ j l. (y.holds.each j l).small }
 
 pub updatable :
     (v : ℕ) (a : Want) (n : ℕ) (w : List ℕ) (few : v ≤ 4096) (room : 3 * v ≤ length w) → Heap v a n w → (s : ℕ) → s < v → (on : Bool) (e : ℕ) →
@@ -59,7 +76,6 @@ pub updatable :
 updatable v a n w few room y s small on e of =
     let none : But s a a = record { inside = λ u ne. refl; entry = λ u ne. refl } in
     record {
-      safe = record { few = few; fit = fits v a n w y; room = room; each = λ j l. (y.holds.each j l).small };
       small = small;
       stands = λ ne. (y.holds.there s small (stood_in v a a w few room s small none n y ne)).slot;
       of = λ t. rw (of t) small;

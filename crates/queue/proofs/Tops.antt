@@ -10,10 +10,9 @@ use lib.Dec.{T}
 use lib.ListN.{length, get_or}
 use mir.Facts.{and_yes}
 use Rattle.search.specs.declared.Vertex.{Vertex}
-use Rattle.search.specs.declared.Best.{Best}
-use Rattle.search.specs.declared.Best.TheVariants.{Nobody, Found}
+use Rattle.std.specs.Prelude.{Some, None}
+use Rattle.search.specs.Turn.{Best, key, offered, least}
 use Rattle.search.specs.Job.{at}
-use Rattle.search.specs.Turn.{key, offered, least}
 use Rattle.search.specs.Bounds.{max_factor, max_key, Priced, Within}
 use Rattle.search.proofs.Tools.{same_cases, le_cases}
 use Rattle.search.proofs.Least.{Least, none, some, least_is, key_at, offered_at}
@@ -50,12 +49,12 @@ module _ (i w1 : ℕ) (hs : List ℕ) (st : List Vertex) (v n : ℕ) (w : List �
 
   top_by : (b : Best) → Least i w1 hs st (length st) b → top_of v n w ≡ b
   unfolding top_of want_of
-  top_by Nobody (none f) =
+  top_by None (none f) =
       same_cases n 0 (λ e. rw (eq-eqb _ _ e))
       (λ ne.
       let r : Root v (want_of i w1 hs st) n w y = root v (want_of i w1 hs st) n w y (omega arith) in
       absurd (f (vertex_of e₀) (omega (arith, r.small)) r.inside))
-  top_by (Found m a) (some _ _ la t e f g) =
+  top_by (Some (m, a)) (some _ _ la t e f g) =
       same_cases n 0 (λ z. absurd (empty v (want_of i w1 hs st) n w y z a (omega arith) t))
       (λ ne. let k = top_some m a la t e f g ne in rw (ne_eqb _ _ ne, k.0, k.1))
 
@@ -72,15 +71,15 @@ module _ (i w1 : ℕ) (hs : List ℕ) (st : List Vertex) (factor : w1 ≤ max_fa
       omega (arith, priced.reached s (priced.opened s o), mul-le-mul factor (narrow s))
 
   least_within : (b : Best) → Least i w1 hs st (length st) b → Within (length st) b
-  least_within Nobody (none f) =
+  least_within None (none f) =
       record {
         small = record { key = λ k s e. let z : ◌≡◌ {A = ℕ} 0 1 = cc in absurd (omega arith) };
         vertex = λ k s e. let z : ◌≡◌ {A = ℕ} 0 1 = cc in absurd (omega arith);
       }
-  least_within (Found m a) (some _ _ la t e f g) =
+  least_within (Some (m, a)) (some _ _ la t e f g) =
       record {
-        small = record { key = λ k s q. let p : m ≡ k = cc in omega (arith, e, key_small a t) };
-        vertex = λ k s q. let p : a ≡ s = cc in omega (arith, la);
+        small = record { key = λ k s q. let p : m ≡ k = grind arith in omega (arith, e, key_small a t) };
+        vertex = λ k s q. let p : a ≡ s = grind arith in omega (arith, la);
       }
 
 -- ---- a table's heap
@@ -102,10 +101,10 @@ module _ (v : ℕ) (t : Tables) (anchor sheets : List ℕ) (st : List Vertex) (h
 -- ---- the code's two cases
 
 module _ (v n : ℕ) (w : List ℕ) where
-  pub first_none : n ≡ 0 → Nobody ≡ top_of v n w
+  pub first_none : n ≡ 0 → None ≡ top_of v n w
   unfolding top_of
   first_none h = rw (eq-eqb _ _ h)
 
-  pub first_found : n ≢ 0 → (e : ℕ) → e ≡ entry_at v w 0 → Found (e / 4096) (vertex_of e) ≡ top_of v n w
+  pub first_found : n ≢ 0 → (e : ℕ) → e ≡ entry_at v w 0 → Some (e / 4096, vertex_of e) ≡ top_of v n w
   unfolding top_of
   first_found h e is = rw (ne_eqb _ _ h, ← is)

@@ -4,7 +4,7 @@ use Rattle.graph.specs.Limits.{max_vertices}
 use Rattle.search.specs.declared.Vertex.{Vertex}
 use Rattle.search.specs.Job.{fresh, at}
 use Rattle.search.specs.Bounds.{max_factor, Priced}
-use Rattle.workspace.specs.declared.Size.{Size}
+use Rattle.graph.specs.declared.Size.{Size}
 use Rattle.workspace.specs.Layout.{Words, Room, vertices_of}
 use Rattle.heap.specs.Heap.{Heap}
 use Rattle.queue.specs.declared.Tables.{Tables}

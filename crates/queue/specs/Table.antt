@@ -1,10 +1,8 @@
 -- The heap of a table: what it is to hold for a list of vertices, and its first entry as the least key: for contracts inside the planner call, nothing that a reader must believe.
-use Rattle.std.specs.Prelude.{ℕ, ◌+◌, ◌/◌, Bool, cond, List, eqb, get_or}
+use Rattle.std.specs.Prelude.{ℕ, ◌+◌, ◌/◌, Bool, cond, List, eqb, get_or, Some, None}
 use Rattle.search.specs.declared.Vertex.{Vertex}
-use Rattle.search.specs.declared.Best.{Best}
-use Rattle.search.specs.declared.Best.TheVariants.{Nobody, Found}
+use Rattle.search.specs.Turn.{Best, key, offered}
 use Rattle.search.specs.Job.{at}
-use Rattle.search.specs.Turn.{key, offered}
 use Rattle.search.specs.Bounds.{max_g}
 use Rattle.heap.specs.Words.{packed, vertex_of, entry_at}
 use Rattle.heap.specs.Heap.{Want}
@@ -28,7 +26,7 @@ entry_for w1 h x s on = cond on (packed (key w1 h x) s) 0
 
 -- the first entry of a heap of n
 unfoldable pub top_of : ℕ → ℕ → List ℕ → Best
-top_of v n w = cond (eqb n 0) Nobody (Found (entry_at v w 0 / 4096) (vertex_of (entry_at v w 0)))
+top_of v n w = cond (eqb n 0) None (Some (entry_at v w 0 / 4096, vertex_of (entry_at v w 0)))
 
 -- the first entry of table i's heap
 unfoldable pub top_in : ℕ → ℕ → Heaps → Best

@@ -1,76 +1,50 @@
 // The key of a vertex, and whether a table is offered it.
 ghost use Rattle.std.specs.Prelude.{◌≡◌, ◌≤◌, ◌*◌, ◌<◌, T, length, get_or};
-ghost use Rattle.search.specs.Turn.{offered};
+ghost use Rattle.search.specs.Turn.{offered, key};
 ghost use Rattle.search.specs.Bounds.{max_factor};
+ghost use Rattle.heap.specs.Words.{packed};
 ghost use Rattle.queue.specs.Parts.{table_of};
-ghost use Rattle.queue.specs.Table.{max_open_g, entry_for};
+ghost use Rattle.queue.specs.Table.{max_open_g};
 ghost use Rattle.queue.specs.Offers.{Offers};
 
+use crate::Queues;
 use search::Vertex;
 
-// On a guide sheet: the guide has no opinion on the vertex.
-const NO_OPINION: u32 = 4294967295;
-
-// What a table is offered of a vertex: whether it may expand it, and its entry, 0 where it may not.
-#[derive(Clone, Copy)]
-pub struct Offer {
-    pub on: bool,
-    pub entry: u64,
-}
-
-// The number of vertex s in table i.
-fn number(anchor: &[u32], guides: &[u32], v: u32, i: u32, s: u32) -> u32
-    requires { (s < v) × (v ≤ length anchor.now) × (i * v ≤ length guides.now) × (i ≤ 8) }
-    ensures { result ≡ get_or (table_of v anchor.now guides.now i) s 0 }
-{
-    if i == 0 {
-        return anchor[s as usize];
-    }
-    let from = ((i - 1) as usize) * (v as usize);
-    guides[from + (s as usize)]
-}
-
-// Whether heuristic i, whose number for the vertex is h, may expand it.
-fn offered(x: Vertex, i: u32, h: u32) -> bool
-    ensures { result ≡ offered i h x }
-{
-    if x.opened {
+impl Queues<'_> {
+    // The number of vertex s in table i.
+    fn number(&self, i: u32, s: u32) -> u32
+        requires { (s < self.now.vertices) × (self.now.vertices ≤ length self.now.anchor.now) × (i * self.now.vertices ≤ length self.now.guides.now) × (i ≤ 8) }
+        ensures { result ≡ get_or (table_of self.now.vertices self.now.anchor.now self.now.guides.now i) s 0 }
+    {
         if i == 0 {
-            return true;
+            return self.anchor[s as usize];
         }
-        if x.inad {
-            return false;
+        let from = ((i - 1) as usize) * (self.vertices as usize);
+        self.guides[from + (s as usize)]
+    }
+
+    // The entry of vertex s, which is x and open, where h is the heuristic's number for it.
+    fn entry_for(&self, x: Vertex, h: u32, s: u32) -> u64
+        requires { (self.now.tables.w1 ≤ max_factor) × (s < 4096) × (x.g ≤ max_open_g) }
+        ensures { result ≡ packed (key self.now.tables.w1 h x) s }
+    {
+        (100 * x.g + u64::from(self.tables.w1) * u64::from(h)) * 4096 + u64::from(s)
+    }
+
+    // What table i is offered of vertex s, which is x: its entry. Its number is read only where it is open.
+    pub(crate) fn offer(&self, i: u32, s: u32, x: Vertex) -> Option<u64>
+        requires { (s < self.now.vertices) × (self.now.vertices ≤ length self.now.anchor.now) × (i * self.now.vertices ≤ length self.now.guides.now)
+            × (i ≤ 8) × (self.now.tables.w1 ≤ max_factor) × (self.now.vertices ≤ 4096) × (T x.opened → x.g ≤ max_open_g) }
+        ensures { Offers i self.now.tables.w1 (get_or (table_of self.now.vertices self.now.anchor.now self.now.guides.now i) s 0) x s result }
+    {
+        if !x.opened {
+            return None;
         }
-        return h != NO_OPINION;
+        let h = self.number(i, s);
+        if x.is_offered(i, h) {
+            Some(self.entry_for(x, h, s))
+        } else {
+            None
+        }
     }
-    false
-}
-
-// The entry of vertex s, which is x, where h is the heuristic's number for it; 0 where it is not offered.
-fn entry_for(x: Vertex, w1: u32, h: u32, s: u32, on: bool) -> u64
-    requires { (w1 ≤ max_factor) × (s < 4096) × (T on → x.g ≤ max_open_g) }
-    ensures { result ≡ entry_for w1 h x s on }
-{
-    if on {
-        let g = x.g;
-        return (100 * g + (w1 as u64) * (h as u64)) * 4096 + (s as u64);
-    }
-    0
-}
-
-// What table i is offered of vertex s, which is x: its number is read only where it is open.
-pub fn offer_of(anchor: &[u32], guides: &[u32], v: u32, i: u32, w1: u32, s: u32, x: Vertex) -> Offer
-    requires { (s < v) × (v ≤ length anchor.now) × (i * v ≤ length guides.now) × (i ≤ 8) × (w1 ≤ max_factor) × (v ≤ 4096) × (T x.opened → x.g ≤ max_open_g) }
-    ensures { Offers i w1 (get_or (table_of v anchor.now guides.now i) s 0) x s result }
-{
-    if !x.opened {
-        return Offer {
-            on: false,
-            entry: 0,
-        };
-    }
-    let h = number(anchor, guides, v, i, s);
-    let on = offered(x, i, h);
-    let entry = entry_for(x, w1, h, s, on);
-    Offer { on, entry }
 }

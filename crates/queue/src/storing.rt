@@ -1,47 +1,29 @@
 // A stored vertex, in the heaps of one table after another.
-ghost use Rattle.queue.specs.Parts.{heaps};
 ghost use Rattle.queue.specs.Queues.{StoringIn, StoredIn, StoredGuides, StoringGuides};
+ghost use Rattle.queue.specs.Methods.{memory, Same};
 
-use crate::{Tables, keys, parts};
+use crate::Queues;
 use search::Vertex;
 
-// Vertex s is stored as x: its entry in the heap of table i.
-pub fn store_in(
-    heap: &mut [u32],
-    counts: &mut [u32],
-    anchor: &[u32],
-    guides: &[u32],
-    v: u32,
-    t: Tables,
-    i: u32,
-    s: u32,
-    x: Vertex,
-)
-    requires { StoringIn v t anchor.now guides.now i s x (heaps heap.old counts.old) }
-    ensures { StoredIn v t anchor.now guides.now i s x (heaps heap.old counts.old) (heaps heap.new counts.new) }
-{
-    let offer = keys::offer_of(anchor, guides, v, i, t.w1, s, x);
-    parts::update(heap, counts, v, i, s, offer.on, offer.entry);
-}
+impl Queues<'_> {
+    // Vertex s is stored as x: its entry in the heap of table i.
+    pub(crate) fn store_in(&mut self, i: u32, s: u32, x: Vertex)
+        requires { StoringIn self.old.vertices self.old.tables self.old.anchor.now self.old.guides.now i s x (memory self.old) }
+        ensures same { Same self.old self.new }
+        ensures stored { StoredIn self.old.vertices self.old.tables self.old.anchor.now self.old.guides.now i s x (memory self.old) (memory self.new) }
+    {
+        let offer = self.offer(i, s, x);
+        self.update(i, s, offer);
+    }
 
-// The same in the heaps of all guides, after the anchor's.
-pub fn store_guides(
-    heap: &mut [u32],
-    counts: &mut [u32],
-    anchor: &[u32],
-    guides: &[u32],
-    v: u32,
-    t: Tables,
-    s: u32,
-    x: Vertex,
-)
-    requires { StoringGuides v t anchor.now guides.now s x (heaps heap.old counts.old) }
-    ensures { StoredGuides v t anchor.now guides.now s x (heaps heap.old counts.old) (heaps heap.new counts.new) }
-{
-    let tables = t.guides + 1;
-    let mut i: u32 = 1;
-    while i < tables {
-        store_in(heap, counts, anchor, guides, v, t, i, s, x);
-        i += 1;
+    // The same in the heaps of all guides, after the anchor's.
+    pub(crate) fn store_guides(&mut self, s: u32, x: Vertex)
+        requires { StoringGuides self.old.vertices self.old.tables self.old.anchor.now self.old.guides.now s x (memory self.old) }
+        ensures same { Same self.old self.new }
+        ensures stored { StoredGuides self.old.vertices self.old.tables self.old.anchor.now self.old.guides.now s x (memory self.old) (memory self.new) }
+    {
+        for i in 1..self.tables.guides + 1 {
+            self.store_in(i, s, x);
+        }
     }
 }

@@ -1,13 +1,16 @@
--- Laws of the route in memory: its vertices are counted one by one, and what `keep` laid is read back.
-use mathlib.Core.Path.{◌≡◌, refl, ap, ◌∙◌}
+-- Laws of the route in memory: its vertices are the words before the first that ends it, and what `keep` laid is read back.
+use mathlib.Core.Path.{◌≡◌, refl, sym, ap, ◌∙◌}
 use mathlib.Core.Logic.{◌≢◌}
+use mathlib.Core.Bool.{Bool, true, false, cond, not}
 use mathlib.Core.List.{List, [], ◌∷◌, ◌++◌, Memᴰ}
-use Prim.Native.Nat.{ℕ, zero, suc, ◌+◌, ◌-◌, ◌≤◌, ◌<◌}
-use native.Mathlib.Numerals.{add-one}
+use Prim.Native.Nat.{ℕ, zero, suc, ◌-◌, ◌≤◌, ◌<◌}
 use native.Mathlib.Omega.{arith}
-use lib.ListN.{length, get_or, take, drop, replicate}
-use lib.Seq.{drop-cons, take_at}
+use lib.ListN.{length, take, drop, replicate}
+use lib.Seq.{take_at}
+use lib.Dec.{eqb}
 use borrow.Author.Tests.{eq-eqb, ne_eqb}
+use Rattle.std.specs.List.{take_while}
+use Rattle.std.proofs.lemmas.List.Sums.{take_while-cons}
 use Rattle.graph.specs.declared.Edge.{Edge}
 use Rattle.graph.specs.Lists.{over}
 use Rattle.search.specs.Walk.{Walk, here, along}
@@ -24,44 +27,15 @@ not_here : (x : ℕ) (r : List ℕ) → x ≢ route_end → up_to_end (x ∷ r) 
 unfolding up_to_end
 not_here x r e = rw (ne_eqb x route_end e)
 
--- ---- the loop that counts, at word n of v
-
--- the vertices from word n on
-abbrev ahead : List ℕ → ℕ → ℕ → List ℕ
-ahead route v n = up_to_end (take (v - n) (drop n route))
-
-abbrev pub Counting : List ℕ → ℕ → ℕ → Type 0
-Counting route v n = n + length (ahead route v n) ≡ length (up_to_end (take v route))
-
-pub counting_none : (route : List ℕ) (v : ℕ) → Counting route v 0
-counting_none route v = let q : v - 0 ≡ v = omega arith in rw q (omega arith)
-
-module _ (route : List ℕ) (v n : ℕ) (k : Counting route v n) where
-  module _ (h : n < v) (room : v ≤ length route) where
-    words : take (v - n) (drop n route) ≡ get_or route n 0 ∷ take (v - (n + 1)) (drop (n + 1) route)
-    words =
-        let q : v - n ≡ suc (v - (n + 1)) = omega arith in
-        let l : n < length route = omega arith in
-        rw (q, drop-cons route n 0 l, add-one)
-
-    pub counting_more : get_or route n 0 ≢ route_end → Counting route v (n + 1)
-    counting_more e =
-        let l : length (ahead route v n) ≡ suc (length (ahead route v (n + 1))) =
-        ap (λ (x : List ℕ). length (up_to_end x)) words ∙ ap length (not_here (get_or route n 0) (take (v - (n + 1)) (drop (n + 1) route)) e) in
-        omega arith
-
-    pub counting_end : get_or route n 0 ≡ route_end → n ≡ length (up_to_end (take v route))
-    counting_end e =
-        let l : length (ahead route v n) ≡ 0 =
-        ap (λ (x : List ℕ). length (up_to_end x)) words ∙ ap length (end_here (get_or route n 0) (take (v - (n + 1)) (drop (n + 1) route)) e) in
-        omega arith
-
-  pub counting_all : v ≤ n → n ≡ length (up_to_end (take v route))
-  unfolding up_to_end
-  counting_all h =
-      let q : v - n ≡ 0 = omega arith in
-      let l : length (ahead route v n) ≡ 0 = rw q in
-      omega arith
+-- the vertices are the words before the first that ends a route
+pub ahead_of_end : (l : List ℕ) → up_to_end l ≡ take_while (λ x. not (eqb x route_end)) l
+unfolding up_to_end
+ahead_of_end [] = refl
+ahead_of_end (x ∷ l) = by (eqb x route_end) (ahead_of_end l) ∙ sym (take_while-cons (λ y. not (eqb y route_end)) x l)
+  where
+    by : (t : Bool) {r : List ℕ} → up_to_end l ≡ r → cond t [] (x ∷ up_to_end l) ≡ cond (not t) (x ∷ r) []
+    by true e = refl
+    by false e = ap (λ (s : List ℕ). x ∷ s) e
 
 -- ---- what is laid is read back
 

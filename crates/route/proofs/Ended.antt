@@ -1,6 +1,5 @@
 -- A round's end: what `keep` gives is the incumbent's cost and route memory that the search's definitions give.
 use mathlib.Core.Path.{◌≡◌, refl, sym, ap, ◌∙◌}
-use mathlib.Core.Logic.{◌≢◌}
 use mathlib.Core.Bool.{Bool, true, false, cond, ◌||◌}
 use mathlib.Core.List.{List, []}
 use Prim.Native.Nat.{ℕ, suc, ◌≤◌, ◌<◌}
@@ -11,15 +10,14 @@ use lib.Seq.{drop_at}
 use borrow.Author.Tests.{eq-eqb, ne_eqb}
 use Rattle.graph.specs.Lists.{over}
 use Rattle.search.specs.declared.Progress.{Progress}
-use Rattle.search.specs.declared.RouteCost.{RouteCost}
-use Rattle.search.specs.declared.RouteCost.TheVariants.{Broken, Cost}
-use Rattle.search.specs.Walk.{route_cost}
+use Rattle.std.specs.Prelude.{Some, None}
+use Rattle.search.specs.Walk.{RouteCost, route_cost}
 use Rattle.search.specs.Job.{State, Job, at}
 use Rattle.search.specs.Rounds.{ended, trace, traced, improves, cost_or, end_round}
 use Rattle.search.specs.Outcome.{route_words, route_after}
 use Rattle.search.proofs.Tools.{same_cases}
 use Rattle.search.proofs.Words.{route_length}
-use Rattle.workspace.specs.declared.Size.{Size}
+use Rattle.graph.specs.declared.Size.{Size}
 use Rattle.workspace.specs.Layout.{Words, vertices_of, pred_of, graph_of}
 use Rattle.workspace.proofs.Written.{pred_is}
 use Rattle.route.specs.Trace.{traced_in, traced_cost}
@@ -29,15 +27,7 @@ use Rattle.route.proofs.Laid.{traced_in_most}
 
 -- ---- whether it becomes the incumbent
 
-pub first_improves : (c : ℕ) (p : Progress) → p.rounds ≡ 0 → true ≡ improves (Cost c) p
-unfolding improves
-first_improves c p h = rw (eq-eqb p.rounds 0 h)
-
-pub later_improves : (c : ℕ) (p : Progress) (t : Bool) → p.rounds ≢ 0 → t ≡ ltb c p.cost → t ≡ improves (Cost c) p
-unfolding improves
-later_improves c p t h e = rw (ne_eqb p.rounds 0 h) e
-
-pub broken_not : (c : RouteCost) (p : Progress) → c ≡ Broken → improves c p ≡ false
+pub broken_not : (c : RouteCost) (p : Progress) → c ≡ None → improves c p ≡ false
 unfolding improves
 broken_not c p e = rw e
 
@@ -46,7 +36,7 @@ module _ (v : ℕ) (c : RouteCost) (r : List ℕ) (p : Progress) (old : List ℕ
   abbrev Keeps : ℕ → List ℕ → Type 0
   Keeps n l = (n ≡ kept_cost c p) × (l ≡ kept_route v c r p old)
 
-  pub keeps_new : (k : ℕ) → c ≡ Cost k → improves (Cost k) p ≡ true → (l : List ℕ) → l ≡ over (route_words v r) old → Keeps k l
+  pub keeps_new : (k : ℕ) → c ≡ Some k → improves (Some k) p ≡ true → (l : List ℕ) → l ≡ over (route_words v r) old → Keeps k l
   unfolding kept_cost kept_route cost_or
   keeps_new k e f l g = (rw (e, f), rw (e, f) g)
 
@@ -71,7 +61,7 @@ module _ (job : Job) (s : State) where
   unfolding kept_cost end_round ended
   end_cost = refl
 
-  module _ (old : List ℕ) (k : ℕ) (is : cost ≡ Cost k) (short : 0 < s.progress.rounds → length s.incumbent ≤ job.size)
+  module _ (old : List ℕ) (k : ℕ) (is : cost ≡ Some k) (short : 0 < s.progress.rounds → length s.incumbent ≤ job.size)
       (small : length (traced job s) ≤ job.size) where
     -- a new route over what there is
     new_over : over (route_words job.size (traced job s)) (route_after job s old) ≡ over (route_words job.size (traced job s)) old
@@ -85,7 +75,7 @@ module _ (job : Job) (s : State) where
         (omega (arith, route_length job.size (traced job s) small, route_length job.size s.incumbent (short (omega arith))))))
 
     -- a dearer route is not the first
-    not_first : improves (Cost k) s.progress ≡ false → eqb s.progress.rounds 0 ≡ false
+    not_first : improves (Some k) s.progress ≡ false → eqb s.progress.rounds 0 ≡ false
     unfolding improves
     not_first f = go (eqb s.progress.rounds 0) f
       where
@@ -93,11 +83,11 @@ module _ (job : Job) (s : State) where
         go true e = e
         go false e = refl
 
-    old_over : improves (Cost k) s.progress ≡ false → route_after job s old ≡ over (route_words job.size s.incumbent) old
+    old_over : improves (Some k) s.progress ≡ false → route_after job s old ≡ over (route_words job.size s.incumbent) old
     unfolding route_after
     old_over f = rw (not_first f)
 
-    by_test : (t : Bool) → improves (Cost k) s.progress ≡ t
+    by_test : (t : Bool) → improves (Some k) s.progress ≡ t
         → cond t (over (route_words job.size (traced job s)) (route_after job s old)) (route_after job s old)
         ≡ over (route_words job.size (cond t (traced job s) s.incumbent)) old
     by_test true f = new_over
@@ -105,7 +95,7 @@ module _ (job : Job) (s : State) where
 
     end_route : kept_route job.size cost (traced job s) s.progress (route_after job s old) ≡ route_after job (end_round job s) old
     unfolding kept_route end_round ended route_after
-    end_route = rw (is, ne_eqb (suc s.progress.rounds) 0 (λ e. omega arith)) (by_test (improves (Cost k) s.progress) refl)
+    end_route = rw (is, ne_eqb (suc s.progress.rounds) 0 (λ e. omega arith)) (by_test (improves (Some k) s.progress) refl)
 
 -- ---- where memory holds the state, and a graph over which the traced route costs what it costs over the job's edges
 
@@ -133,7 +123,7 @@ module _ (z : Size) (m : Words) (job : Job) (s : State) (size : z.vertices ≡ j
 
   -- route memory after `keep`, where `old` was lent: the traced route is a walk, and the incumbent has at most V vertices
   pub ends_route :
-      (old entry exit : List ℕ) (k : ℕ) → route_cost job.edges (traced job s) ≡ Cost k →
+      (old entry exit : List ℕ) (k : ℕ) → route_cost job.edges (traced job s) ≡ Some k →
       (0 < s.progress.rounds → length s.incumbent ≤ job.size) → entry ≡ route_after job s old →
       exit ≡ kept_route z.vertices (traced_cost z m.work job.start job.goal) (traced_in z m.work job.start job.goal) s.progress entry →
       exit ≡ route_after job (end_round job s) old

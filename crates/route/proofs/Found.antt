@@ -9,44 +9,42 @@ use native.Mathlib.Omega.{arith}
 use lib.Dec.{eqb}
 use borrow.Author.Tests.{eq-eqb, ne_eqb}
 use Rattle.graph.specs.declared.Edge.{Edge}
-use Rattle.search.specs.declared.RouteCost.{RouteCost}
-use Rattle.search.specs.declared.RouteCost.TheVariants.{Broken, Cost}
-use Rattle.search.specs.Walk.{edge_cost}
+use Rattle.std.specs.Prelude.{Some, None}
+use Rattle.search.specs.Walk.{RouteCost, edge_cost}
 use Rattle.search.proofs.Tools.{same_cases}
-use Rattle.workspace.specs.declared.Size.{Size}
+use Rattle.graph.specs.declared.Size.{Size}
 use Rattle.workspace.specs.Layout.{first_of, edge_at, edges_run, edges_at, edges_under, graph_of}
 use Rattle.route.specs.Costs.{or_else, AtMost}
 
 -- ---- the first cost that is found
 
-pub else_none : (x : RouteCost) → or_else x Broken ≡ x
+else_none : (x : RouteCost) → or_else x None ≡ x
 unfolding or_else
-else_none Broken = refl
-else_none (Cost c) = refl
+else_none None = refl
+else_none (Some c) = refl
 
-else_else : (x y z : RouteCost) → or_else (or_else x y) z ≡ or_else x (or_else y z)
-unfolding or_else
-else_else Broken y z = refl
-else_else (Cost c) y z = refl
-
-pub none_most : (n : ℕ) → AtMost n Broken
+pub none_most : (n : ℕ) → AtMost n None
 none_most n = record { most = λ k e. let q : ◌≡◌ {A = ℕ} 0 1 = cc in absurd (omega arith) }
 
-pub cost_most : (n c : ℕ) → c ≤ n → AtMost n (Cost c)
+pub cost_most : (n c : ℕ) → c ≤ n → AtMost n (Some c)
 cost_most n c h = record { most = λ k e. let q : c ≡ k = cc in omega arith }
 
 -- ---- one edge after another
 
--- an edge of a, alone: whether it enters b
-pub alone_yes : (e : Edge) (a b : ℕ) → e.tail ≡ a → e.head ≡ b → edge_cost (e ∷ []) a b ≡ Cost e.cost
+-- the first edge: whether it leads from a to b
+cost_here : (e : Edge) (r : List Edge) (a b : ℕ) → e.tail ≡ a → e.head ≡ b → edge_cost (e ∷ r) a b ≡ Some e.cost
 unfolding edge_cost
-alone_yes e a b p q = rw (eq-eqb e.tail a p, eq-eqb e.head b q)
+cost_here e r a b p q = rw (eq-eqb e.tail a p, eq-eqb e.head b q)
 
-pub alone_no : (e : Edge) (a b : ℕ) → e.tail ≡ a → e.head ≢ b → edge_cost (e ∷ []) a b ≡ Broken
+cost_later : (e : Edge) (r : List Edge) (a b : ℕ) → e.head ≢ b → edge_cost (e ∷ r) a b ≡ edge_cost r a b
 unfolding edge_cost
-alone_no e a b p q = rw (eq-eqb e.tail a p, ne_eqb e.head b q)
+cost_later e r a b q = by (eqb e.tail a) (ne_eqb e.head b q)
+  where
+    by : (t : Bool) {u : Bool} → u ≡ false → cond (t && u) (Some e.cost) (edge_cost r a b) ≡ edge_cost r a b
+    by true h = rw h
+    by false h = refl
 
-append_by : (t : Bool) (c : ℕ) (x y z : RouteCost) → x ≡ or_else y z → cond t (Cost c) x ≡ or_else (cond t (Cost c) y) z
+append_by : (t : Bool) (c : ℕ) (x y z : RouteCost) → x ≡ or_else y z → cond t (Some c) x ≡ or_else (cond t (Some c) y) z
 unfolding or_else
 append_by true c x y z e = refl
 append_by false c x y z e = e
@@ -60,12 +58,12 @@ edge_append (e ∷ es) fs a b =
 -- ---- in work memory
 
 module _ (z : Size) (w : List ℕ) (a b : ℕ) where
-  other_run : (t n j : ℕ) → t ≢ a → edge_cost (edges_run z w t n j) a b ≡ Broken
+  other_run : (t n j : ℕ) → t ≢ a → edge_cost (edges_run z w t n j) a b ≡ None
   unfolding edges_run edge_cost edge_at
   other_run t zero j h = refl
   other_run t (suc n) j h = rw (ne_eqb t a h) (other_run t n (suc j) h)
 
-  other_edges : (t : ℕ) → t ≢ a → edge_cost (edges_at z w t) a b ≡ Broken
+  other_edges : (t : ℕ) → t ≢ a → edge_cost (edges_at z w t) a b ≡ None
   unfolding edges_at
   other_edges t h = other_run t (first_of w (suc t) - first_of w t) (first_of w t) h
 
@@ -75,7 +73,7 @@ module _ (z : Size) (w : List ℕ) (a b : ℕ) where
   under_cons n t = edge_append (edges_at z w t) (edges_under z w n (suc t)) a b
 
   -- none of n tails from t on is a
-  outside : (n t : ℕ) → ((i : ℕ) → t ≤ i → i < t + n → i ≢ a) → edge_cost (edges_under z w n t) a b ≡ Broken
+  outside : (n t : ℕ) → ((i : ℕ) → t ≤ i → i < t + n → i ≢ a) → edge_cost (edges_under z w n t) a b ≡ None
   unfolding edges_under edge_cost or_else
   outside zero t h = refl
   outside (suc n) t h =
@@ -90,34 +88,39 @@ module _ (z : Size) (w : List ℕ) (a b : ℕ) where
       (λ e. under_cons n t ∙ rw (other_edges t e) (inside n (suc t) (omega arith) (omega arith)))
 
   -- of a tail that is no vertex
-  pub cost_outside : z.vertices ≤ a → edge_cost (graph_of z w) a b ≡ Broken
+  pub cost_outside : z.vertices ≤ a → edge_cost (graph_of z w) a b ≡ None
   unfolding graph_of
   cost_outside h = outside z.vertices 0 (λ i l m q. omega arith)
 
   -- ---- the loop: edge j is the next, before edge `end`
 
-  module _ (end j : ℕ) (found : RouteCost) where
-    -- what is found, or else among the edges from here on, is that of the graph
+  module _ (end j : ℕ) where
+    -- what is found among the edges from here on is that of the graph
     pub Looking : Type 0
-    Looking = or_else found (edge_cost (edges_run z w a (end - j) j) a b) ≡ edge_cost (graph_of z w) a b
+    Looking = edge_cost (edges_run z w a (end - j) j) a b ≡ edge_cost (graph_of z w) a b
 
-  pub looking_none : (end j : ℕ) → a < z.vertices → j ≡ first_of w a → end ≡ first_of w (a + 1) → Looking end j Broken
-  unfolding Looking graph_of edges_at or_else
+  pub looking_none : (end j : ℕ) → a < z.vertices → j ≡ first_of w a → end ≡ first_of w (a + 1) → Looking end j
+  unfolding Looking graph_of edges_at
   looking_none end j h p q = rw (p, q, add-one) (sym (inside z.vertices 0 (omega arith) (omega arith)))
 
-  module _ (end j : ℕ) (found : RouteCost) (k : Looking end j found) where
-    pub looking_more :
-        (found' : RouteCost) → j < end → found' ≡ or_else found (edge_cost (edge_at z w a j ∷ []) a b) → Looking end (j + 1) found'
-    unfolding Looking edges_run
-    looking_more found' h e =
-        let q : end - j ≡ suc (end - (j + 1)) = omega arith in
-        let r : List Edge = edges_run z w a (end - (j + 1)) (j + 1) in
-        let l : edges_run z w a (end - j) j ≡ (edge_at z w a j ∷ []) ++ r = rw (q, add-one) in
-        ap (λ (x : RouteCost). or_else x (edge_cost r a b)) e
-        ∙ else_else found (edge_cost (edge_at z w a j ∷ []) a b) (edge_cost r a b)
-        ∙ ap (or_else found) (sym (ap (λ (x : List Edge). edge_cost x a b) l ∙ edge_append (edge_at z w a j ∷ []) r a b))
-        ∙ k
+  module _ (end j : ℕ) (k : Looking end j) where
+    module _ (h : j < end) (e : Edge) (is : e ≡ edge_at z w a j) where
+      next : edges_run z w a (end - j) j ≡ e ∷ edges_run z w a (end - (j + 1)) (j + 1)
+      unfolding edges_run
+      next = let q : end - j ≡ suc (end - (j + 1)) = omega arith in rw (q, add-one, is)
 
-    pub looking_all : end ≤ j → found ≡ edge_cost (graph_of z w) a b
+      tail_is : e.tail ≡ a
+      unfolding edge_at
+      tail_is = ap (λ (x : Edge). x.tail) is
+
+      pub looking_found : e.head ≡ b → Some e.cost ≡ edge_cost (graph_of z w) a b
+      unfolding Looking
+      looking_found q = sym (cost_here e (edges_run z w a (end - (j + 1)) (j + 1)) a b tail_is q) ∙ (rw next at k)
+
+      pub looking_more : e.head ≢ b → Looking end (j + 1)
+      unfolding Looking
+      looking_more q = sym (cost_later e (edges_run z w a (end - (j + 1)) (j + 1)) a b q) ∙ (rw next at k)
+
+    pub looking_all : end ≤ j → None ≡ edge_cost (graph_of z w) a b
     unfolding Looking edges_run edge_cost
-    looking_all h = let q : end - j ≡ 0 = omega arith in sym (else_none found) ∙ rw q at k
+    looking_all h = let q : end - j ≡ 0 = omega arith in rw q at k

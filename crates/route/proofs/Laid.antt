@@ -2,16 +2,16 @@
 use mathlib.Core.Path.{◌≡◌, refl, sym, ap, ◌∙◌}
 use mathlib.Core.List.{List, [], ◌∷◌, ◌++◌, append_assoc}
 use Prim.Native.Nat.{ℕ, zero, suc, ◌+◌, ◌-◌, ◌≤◌, ◌<◌}
-use native.Mathlib.Numerals.{add-one}
 use native.Mathlib.Omega.{arith}
-use lib.ListN.{length, set, drop, replicate, length-set, length-append, length-drop, length-replicate}
-use lib.Seq.{sets, sets-eq, drop-cons, drop-set-lt, get_or-set_same, take_at, drop_at, drop-drop}
+use lib.ListN.{length, set, take, drop, replicate, length-set, length-append, length-drop, length-replicate}
+use lib.Seq.{length-take-le, drop-cons, drop-set-lt, get_or-set_same, take_at, drop_at, drop-drop}
+use borrow.Rule.Slice.PartMut.{put_mid}
 use Rattle.graph.specs.Lists.{over}
 use Rattle.search.specs.Job.{route_end}
 use Rattle.search.specs.Rounds.{trace}
 use Rattle.search.specs.Outcome.{route_words}
 use Rattle.search.proofs.Tools.{same_cases}
-use Rattle.workspace.specs.declared.Size.{Size}
+use Rattle.graph.specs.declared.Size.{Size}
 use Rattle.workspace.specs.Layout.{pred_of}
 use Rattle.route.specs.Trace.{traced_in}
 use Rattle.route.proofs.Traces.{trace_stop, trace_go, trace_none}
@@ -65,57 +65,36 @@ module _ (pred : ℕ → ℕ) where
   -- ---- the loop that lays n vertices from the back: r₀ before it, r with those from word i on
 
   pub record Laying (n goal : ℕ) (r₀ r : List ℕ) (i x : ℕ) : Type 0 where
-    pub most : i ≤ n
-    pub long : length r ≡ length r₀
     pub ahead : backs pred i x (drop i r) ≡ backs pred n goal (drop n r₀)
 
-  module _ (n goal : ℕ) (r₀ : List ℕ) where
-    pub laying_none : Laying n goal r₀ r₀ n goal
-    laying_none = record { most = omega arith; long = refl; ahead = refl }
+  module _ (n goal : ℕ) (r₀ r : List ℕ) (i x : ℕ) (k : Laying n goal r₀ r i x) where
+    pub laying_more : (y : ℕ) → 0 < i → i ≤ length r → y ≡ pred x → Laying n goal r₀ (set r (i - 1) x) (i - 1) y
+    unfolding backs
+    laying_more y h room e =
+        let s : i ≡ suc (i - 1) = omega arith in
+        let l : i - 1 < length r = omega arith in
+        let m : i - 1 < length (set r (i - 1) x) = rw length-set l in
+        let d : drop (i - 1) (set r (i - 1) x) ≡ x ∷ drop (suc (i - 1)) r =
+        rw (drop-cons (set r (i - 1) x) (i - 1) 0 m, get_or-set_same r (i - 1) x 0 l, drop-set-lt (suc (i - 1)) r (i - 1) x (omega arith)) in
+        record { ahead = rw (d, e) (rw s at k.ahead) }
 
-    module _ (r : List ℕ) (i x : ℕ) (k : Laying n goal r₀ r i x) where
-      pub laying_more : (r' : List ℕ) (x' : ℕ) → 0 < i → n ≤ length r₀ → r' ≡ set r (i - 1) x → x' ≡ pred x → Laying n goal r₀ r' (i - 1) x'
-      unfolding backs
-      laying_more r' x' h room e f =
-          let s : i ≡ suc (i - 1) = omega arith in
-          let l : i - 1 < length r = omega (arith, k.most, k.long) in
-          let m : i - 1 < length (set r (i - 1) x) = rw length-set l in
-          let d : drop (i - 1) r' ≡ x ∷ drop (suc (i - 1)) r =
-          rw (e, drop-cons (set r (i - 1) x) (i - 1) 0 m, get_or-set_same r (i - 1) x 0 l, drop-set-lt (suc (i - 1)) r (i - 1) x (omega arith)) in
-          record {
-            most = omega (arith, k.most);
-            long = ap length e ∙ length-set r (i - 1) x ∙ k.long;
-            ahead = rw (d, f) (rw s at k.ahead);
-          }
-
-      pub laying_all : i ≡ 0 → n ≤ length r₀ → r ≡ over (backs pred n goal []) r₀
-      unfolding over backs
-      laying_all h room =
-          let l : length (backs pred n goal []) ≡ n = omega (arith, length_backs n goal []) in
-          rw l (rw h at k.ahead ∙ backs_before n goal (drop n r₀))
-
--- ---- one word again and again, from i up to v
-
-module _ (v i c : ℕ) (r : List ℕ) where
-  pub fill_more : i < v → sets (set r i c) (i + 1) (replicate (v - (i + 1)) c) ≡ sets r i (replicate (v - i) c)
-  fill_more h = let q : v - i ≡ suc (v - (i + 1)) = omega arith in rw (q, add-one)
-
-  pub fill_done : v ≤ i → sets r i (replicate (v - i) c) ≡ r
-  fill_done h = let q : v - i ≡ 0 = omega arith in rw q
+    pub laying_all : i ≡ 0 → r ≡ over (backs pred n goal []) r₀
+    unfolding over backs
+    laying_all h =
+        let l : length (backs pred n goal []) ≡ n = omega (arith, length_backs n goal []) in
+        rw l (rw h at k.ahead ∙ backs_before n goal (drop n r₀))
 
 -- a route laid, and then the words that end it
 ended_route :
     (v : ℕ) (t old : List ℕ) → length t ≤ v → v ≤ length old →
-    sets (over t old) (length t) (replicate (v - length t) route_end) ≡ over (route_words v t) old
+    put_mid (length t) (v - length t) (over t old) (replicate (v - length t) route_end) ≡ over (route_words v t) old
 unfolding over route_words
 ended_route v t old h room =
     let n : ℕ = length t in
     let e : List ℕ = replicate (v - n) route_end in
     let le : length e ≡ v - n = length-replicate (v - n) route_end in
-    let lo : length (t ++ drop n old) ≡ length old = length-append t (drop n old) ∙ omega (arith, length-drop n old) in
-    let lw : length (t ++ e) ≡ n + length e = length-append t e in
-    sets-eq e (t ++ drop n old) n (omega arith)
-    ∙ rw (take_at t (drop n old) n refl, ← drop-drop (length e) n (t ++ drop n old), drop_at t (drop n old) n refl, drop-drop (length e) n old, lw)
+    let lw : length (t ++ e) ≡ n + (v - n) = length-append t e ∙ ap (λ (m : ℕ). n + m) le in
+    rw (take_at t (drop n old) n refl, drop_at t (drop n old) n refl, drop-drop (v - n) n old, lw) (sym (append_assoc t e (drop (n + (v - n)) old)))
 
 -- ---- the trace, as work memory has it
 
@@ -124,12 +103,16 @@ module _ (z : Size) (w : List ℕ) (start goal : ℕ) where
   unfolding traced_in
   traced_in_most = length_traced (pred_of z w) start z.vertices goal
 
-  module _ (old laid r : List ℕ) (n : ℕ) (e : n ≡ length (traced_in z w start goal)) (f : laid ≡ over (backs (pred_of z w) n goal []) old) where
+  module _ (old laid r : List ℕ) (n : ℕ) (e : n ≡ length (traced_in z w start goal)) (f : laid ≡ over (backs (pred_of z w) n goal []) old)
+      (long : length laid ≡ length old) where
     pub laid_traced : laid ≡ over (traced_in z w start goal) old
     unfolding traced_in
     laid_traced = rw (f, traced_backs (pred_of z w) start z.vertices goal n e)
 
+    -- and after it, up to word V, the words that end a route
     pub laid_whole :
-        z.vertices ≤ length old → r ≡ sets laid n (replicate (z.vertices - n) route_end) → r ≡ over (route_words z.vertices (traced_in z w start goal)) old
+        z.vertices ≤ length old → r ≡ replicate (length (take (z.vertices - n) (drop n laid))) route_end →
+        put_mid n (z.vertices - n) laid r ≡ over (route_words z.vertices (traced_in z w start goal)) old
     laid_whole room g =
-        rw (g, laid_traced, e) (ended_route z.vertices (traced_in z w start goal) old traced_in_most room)
+        let q : length (take (z.vertices - n) (drop n laid)) ≡ z.vertices - n = length-take-le (z.vertices - n) (drop n laid) (omega (arith, length-drop n laid, long)) in
+        rw (g, q, laid_traced, e) (ended_route z.vertices (traced_in z w start goal) old traced_in_most room)

@@ -11,12 +11,11 @@ use lib.Dec.{eqb}
 use lib.ListN.{length}
 use borrow.Author.Tests.{eq-eqb, ne_eqb}
 use Rattle.graph.specs.declared.Edge.{Edge}
-use Rattle.search.specs.declared.RouteCost.{RouteCost}
-use Rattle.search.specs.declared.RouteCost.TheVariants.{Broken, Cost}
-use Rattle.search.specs.Walk.{edge_cost, on_edge, cost_from, route_cost}
+use Rattle.std.specs.Prelude.{Some, None}
+use Rattle.search.specs.Walk.{RouteCost, edge_cost, on_edge, cost_from, route_cost}
 use Rattle.search.specs.Rounds.{trace}
 use Rattle.search.proofs.Tools.{same_cases}
-use Rattle.workspace.specs.declared.Size.{Size}
+use Rattle.graph.specs.declared.Size.{Size}
 use Rattle.workspace.specs.Layout.{pred_of, graph_of}
 use Rattle.route.specs.declared.trace.Traced.{Traced}
 use Rattle.route.specs.Trace.{traced_in, traced_cost, measured}
@@ -62,27 +61,27 @@ trace_same p q h start (suc n) x r =
 
 module _ (edges : List Edge) where
   shift_by : (n k : ℕ) (b : ℕ) (r : List ℕ) (x : RouteCost)
-      → ((c : ℕ) → cost_from edges (n + (k + c)) b r ≡ plus (Cost n) (cost_from edges (k + c) b r))
-      → on_edge x (λ c. cost_from edges (n + k + c) b r) ≡ plus (Cost n) (on_edge x (λ c. cost_from edges (k + c) b r))
+      → ((c : ℕ) → cost_from edges (n + (k + c)) b r ≡ plus (Some n) (cost_from edges (k + c) b r))
+      → on_edge x (λ c. cost_from edges (n + k + c) b r) ≡ plus (Some n) (on_edge x (λ c. cost_from edges (k + c) b r))
   unfolding on_edge plus
-  shift_by n k b r Broken f = refl
-  shift_by n k b r (Cost c) f = rw add_assoc (f c)
+  shift_by n k b r None f = refl
+  shift_by n k b r (Some c) f = rw add_assoc (f c)
 
-  shift : (n k a : ℕ) (r : List ℕ) → cost_from edges (n + k) a r ≡ plus (Cost n) (cost_from edges k a r)
+  shift : (n k a : ℕ) (r : List ℕ) → cost_from edges (n + k) a r ≡ plus (Some n) (cost_from edges k a r)
   unfolding cost_from plus
   shift n k a [] = refl
   shift n k a (b ∷ r) = shift_by n k b r (edge_cost edges a b) (λ c. shift n (k + c) b r)
 
   cons_by : (b : ℕ) (r : List ℕ) (x : RouteCost) → on_edge x (λ c. cost_from edges (0 + c) b r) ≡ plus x (cost_from edges 0 b r)
   unfolding on_edge plus
-  cons_by b r Broken = refl
-  cons_by b r (Cost c) = let e : 0 + c ≡ c + 0 = omega arith in rw e (shift c 0 b r)
+  cons_by b r None = refl
+  cons_by b r (Some c) = let e : 0 + c ≡ c + 0 = omega arith in rw e (shift c 0 b r)
 
   route_cons : (a b : ℕ) (r : List ℕ) → route_cost edges (a ∷ b ∷ r) ≡ plus (edge_cost edges a b) (route_cost edges (b ∷ r))
   unfolding route_cost cost_from
   route_cons a b r = cons_by b r (edge_cost edges a b)
 
-  measured_one : (x : ℕ) → record { first = x; length = 1; cost = Cost 0 } ≡ measured edges (x ∷ [])
+  measured_one : (x : ℕ) → record { first = x; length = 1; cost = Some 0 } ≡ measured edges (x ∷ [])
   unfolding measured route_cost cost_from
   measured_one x = refl
 
@@ -94,12 +93,9 @@ module _ (edges : List Edge) where
 
 plus_most : (m n : ℕ) (x y : RouteCost) → AtMost m x → AtMost n y → AtMost (m + n) (plus x y)
 unfolding plus
-plus_most m n Broken y h k = record { most = λ i e. let q : ◌≡◌ {A = ℕ} 0 1 = cc in absurd (omega arith) }
-plus_most m n (Cost c) Broken h k = record { most = λ i e. let q : ◌≡◌ {A = ℕ} 0 1 = cc in absurd (omega arith) }
-plus_most m n (Cost c) (Cost d) h k = cost_most (m + n) (c + d) (omega (arith, h.most c refl, k.most d refl))
-
-pub most_le : (m n : ℕ) (x : RouteCost) → m ≤ n → AtMost m x → AtMost n x
-most_le m n x h k = record { most = λ i e. omega (arith, k.most i e) }
+plus_most m n None y h k = record { most = λ i e. let q : ◌≡◌ {A = ℕ} 0 1 = cc in absurd (omega arith) }
+plus_most m n (Some c) None h k = record { most = λ i e. let q : ◌≡◌ {A = ℕ} 0 1 = cc in absurd (omega arith) }
+plus_most m n (Some c) (Some d) h k = cost_most (m + n) (c + d) (omega (arith, h.most c refl, k.most d refl))
 
 -- ---- one vertex further back
 
@@ -133,7 +129,7 @@ module _ (z : Size) (w : List ℕ) (start goal : ℕ) where
     pub ahead : trace (pred_of z w) start left t.first rest ≡ traced_in z w start goal
     pub pays : Payable t
 
-  pub tracing_none : goal < z.vertices → Tracing (record { first = goal; length = 1; cost = Cost 0 })
+  pub tracing_none : goal < z.vertices → Tracing (record { first = goal; length = 1; cost = Some 0 })
   unfolding traced_in
   tracing_none h =
       record {

@@ -1,21 +1,19 @@
 -- Costs of edges and walks as the trace finds, adds and bounds them: for contracts of private functions alone, nothing that a reader must believe.
-use Rattle.std.specs.Prelude.{ℕ, ◌+◌, ◌*◌, ◌≤◌, ◌≡◌, List}
+use Rattle.std.specs.Prelude.{ℕ, ◌+◌, ◌*◌, ◌≤◌, ◌≡◌, List, Some, None}
 use Rattle.graph.specs.declared.Edge.{Edge}
-use Rattle.search.specs.declared.RouteCost.{RouteCost}
-use Rattle.search.specs.declared.RouteCost.TheVariants.{Broken, Cost}
-use Rattle.search.specs.Walk.{edge_cost}
+use Rattle.search.specs.Walk.{RouteCost, edge_cost}
 use Rattle.route.specs.declared.trace.Traced.{Traced}
 
 -- the first cost that is found
 unfoldable pub or_else : RouteCost → RouteCost → RouteCost
-or_else Broken y = y
-or_else (Cost c) y = Cost c
+or_else None y = y
+or_else (Some c) y = Some c
 
 -- the cost of an edge and of a walk after it
 unfoldable pub plus : RouteCost → RouteCost → RouteCost
-plus Broken y = Broken
-plus (Cost c) Broken = Broken
-plus (Cost c) (Cost n) = Cost (c + n)
+plus None y = None
+plus (Some c) None = None
+plus (Some c) (Some n) = Some (c + n)
 
 -- one vertex before those that are traced
 unfoldable pub extended : List Edge → ℕ → Traced → Traced
@@ -29,7 +27,7 @@ max_word = 4294967295
 
 -- a cost within a bound
 pub record AtMost (n : ℕ) (c : RouteCost) : Type 0 where
-  pub most : (k : ℕ) → c ≡ Cost k → k ≤ n
+  pub most : (k : ℕ) → c ≡ Some k → k ≤ n
 
 -- a cost of at most a word for each vertex
 abbrev pub Payable : Traced → Type 0

@@ -2,7 +2,7 @@
 use Rattle.std.specs.Prelude.{ℕ, cond, List, [], ◌∷◌, eqb}
 use Rattle.graph.specs.Lists.{over}
 use Rattle.search.specs.declared.Progress.{Progress}
-use Rattle.search.specs.declared.RouteCost.{RouteCost}
+use Rattle.search.specs.Walk.{RouteCost}
 use Rattle.search.specs.Job.{route_end}
 use Rattle.search.specs.Rounds.{improves, cost_or}
 use Rattle.search.specs.Outcome.{route_words}

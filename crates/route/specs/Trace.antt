@@ -1,10 +1,9 @@
 -- The trace of predecessors from the goal, as work memory has it, and its figures: for contracts inside the planner call, nothing that a reader must believe.
 use Rattle.std.specs.Prelude.{ℕ, List, [], length, get_or}
 use Rattle.graph.specs.declared.Edge.{Edge}
-use Rattle.search.specs.declared.RouteCost.{RouteCost}
-use Rattle.search.specs.Walk.{route_cost}
+use Rattle.search.specs.Walk.{RouteCost, route_cost}
 use Rattle.search.specs.Rounds.{trace}
-use Rattle.workspace.specs.declared.Size.{Size}
+use Rattle.graph.specs.declared.Size.{Size}
 use Rattle.workspace.specs.Layout.{pred_of, graph_of}
 use Rattle.route.specs.declared.trace.Traced.{Traced}
 

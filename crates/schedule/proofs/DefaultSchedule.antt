@@ -1,66 +1,20 @@
 -- Laws of loading: a sheet laid over the numbers, and what loading promises.
-use Prim.Native.Nat.{ℕ, ◌+◌, ◌≤◌, ◌<◌}
-use native.Mathlib.Numerals.{add-one}
+use Prim.Native.Nat.{ℕ, ◌≤◌}
 use native.Mathlib.Omega.{arith}
 use mathlib.Core.Path.{◌≡◌, refl, sym, ap, ◌∙◌}
 use mathlib.Core.Logic.{◌↔◌}
 use mathlib.Core.Bool.{Bool, true, false, true≢false, not}
 use mathlib.Core.List.{List, [], ◌∷◌, ◌++◌, Memᴰ}
-use lib.ListN.{length, get_or, set, take, drop, replicate}
-use lib.Seq.{paste, paste-zero, paste-suc, take_all, take-append_seam, drop-append_seam}
+use lib.ListN.{length, drop, replicate}
+use lib.Seq.{take-append_seam, drop-append_seam}
+use Rattle.std.specs.Prelude.{is_ok}
 use Rattle.graph.specs.Lists.{none, over}
 use Rattle.search.specs.Job.{standard}
 use Rattle.search.specs.Call.{Call, schedule_of, out_of_range, rising, unfit_schedule, pairs, row, schedule_row, job_of}
 use Rattle.search.specs.Admitted.{Schedule}
 use Rattle.search.proofs.Admitted.{schedules, job_schedule, force_default}
 use Rattle.schedule.specs.declared.default_schedule.DefaultSchedule.{DefaultSchedule}
-use Rattle.schedule.specs.DefaultSchedule.{pairs_in, initial, loading, after, Rejected, Loads}
-
--- ---- the loop
-
--- the sheet's first i numbers are laid
-pub record Laying (old sheet : List ℕ) (i : ℕ) (next : List ℕ) : Type 0 where
-  pub within : i ≤ length sheet
-  pub laid : next ≡ paste old 0 sheet i
-
-pub laying_first : (old sheet : List ℕ) → Laying old sheet 0 old
-laying_first old sheet = record { within = omega arith; laid = paste-zero old 0 sheet }
-
-module _ (old sheet : List ℕ) (i : ℕ) (next : List ℕ) (l : Laying old sheet i next) where
-  pub laying_next : i < length sheet → length sheet ≤ length old → Laying old sheet (i + 1) (set next i (get_or sheet i 0))
-  laying_next h room =
-      let z : i ≡ 0 + i = omega arith in
-      rw (add-one i)
-      record {
-        within = h;
-        laid =
-            ap (λ (x : List ℕ). set x i (get_or sheet i 0)) l.laid
-            ∙ ap (λ (k : ℕ). set (paste old 0 sheet i) k (get_or sheet i 0)) z
-            ∙ paste-suc old 0 sheet i 0 (omega arith) h;
-      }
-
-  pub laying_all : length sheet ≤ i → next ≡ over sheet old
-  unfolding over
-  laying_all h =
-      let e : i ≡ length sheet = omega (arith, l.within) in
-      let z : 0 + length sheet ≡ length sheet = omega arith in
-      l.laid
-      ∙ ap (λ (k : ℕ). paste old 0 sheet k) e
-      ∙ ap (λ (k : ℕ). take (length sheet) sheet ++ drop k old) z
-      ∙ ap (λ (x : List ℕ). x ++ drop (length sheet) old) (take_all (length sheet) sheet (omega arith))
-
--- ---- the test
-
-module _ (d : DefaultSchedule) (sheet : List ℕ) where
-  pub rejects : unfit_schedule sheet ≡ true → record { accepted = false; schedule = d } ≡ loading d sheet
-  unfolding loading
-  rejects e = rw e
-
-  pub accepts :
-      unfit_schedule sheet ≡ false → (numbers : List ℕ) (count : ℕ) → numbers ≡ over sheet d.numbers → count ≡ length sheet →
-      record { accepted = true; schedule = record { numbers = numbers; count = count } } ≡ loading d sheet
-  unfolding loading
-  accepts e numbers count n k = rw (e, n, k)
+use Rattle.schedule.specs.DefaultSchedule.{pairs_in, initial, loading, in_force, after, Rejected, Loads}
 
 -- what is within the numbers' room, where a sheet is not rejected
 pub sheet_short : (sheet : List ℕ) → unfit_schedule sheet ≡ false → length sheet ≤ 32
@@ -74,42 +28,42 @@ pairs_over sheet old = take-append_seam sheet (drop (length sheet) old)
 
 -- by the test of the sheet
 module _ (d : DefaultSchedule) (sheet : List ℕ) where
-  accepted_by : (b : Bool) → unfit_schedule sheet ≡ b → (loading d sheet).accepted ≡ not b
+  accepted_by : (b : Bool) → unfit_schedule sheet ≡ b → is_ok (loading d sheet) ≡ not b
   unfolding loading
   accepted_by true e = rw e
   accepted_by false e = rw e
 
-  tested_by : (b : Bool) → unfit_schedule sheet ≡ b → (loading d sheet).accepted ≡ true ↔ Schedule sheet
+  tested_by : (b : Bool) → unfit_schedule sheet ≡ b → is_ok (loading d sheet) ≡ true ↔ Schedule sheet
   tested_by true e = (λ a. absurd (true≢false (sym a ∙ accepted_by true e)), λ y. absurd (true≢false (sym e ∙ (schedules sheet).1 y)))
   tested_by false e = (λ a. (schedules sheet).0 e, λ y. accepted_by false e)
 
-  taken_by : (b : Bool) → unfit_schedule sheet ≡ b → (loading d sheet).accepted ≡ true → pairs_in (loading d sheet).schedule ≡ sheet
+  taken_by : (b : Bool) → unfit_schedule sheet ≡ b → is_ok (loading d sheet) ≡ true → pairs_in (in_force (loading d sheet)) ≡ sheet
   unfolding loading
   taken_by true e a = absurd (true≢false (sym a ∙ accepted_by true e))
   taken_by false e a = rw e (pairs_over sheet d.numbers)
 
-  counted_by : (b : Bool) → unfit_schedule sheet ≡ b → (loading d sheet).accepted ≡ true → (loading d sheet).schedule.count ≡ length sheet
+  counted_by : (b : Bool) → unfit_schedule sheet ≡ b → is_ok (loading d sheet) ≡ true → (in_force (loading d sheet)).count ≡ length sheet
   unfolding loading
   counted_by true e a = absurd (true≢false (sym a ∙ accepted_by true e))
   counted_by false e a = rw e
 
   behind_by :
-      (b : Bool) → unfit_schedule sheet ≡ b → (loading d sheet).accepted ≡ true →
-      drop (length sheet) (loading d sheet).schedule.numbers ≡ drop (length sheet) d.numbers
+      (b : Bool) → unfit_schedule sheet ≡ b → is_ok (loading d sheet) ≡ true →
+      drop (length sheet) (in_force (loading d sheet)).numbers ≡ drop (length sheet) d.numbers
   unfolding loading over
   behind_by true e a = absurd (true≢false (sym a ∙ accepted_by true e))
   behind_by false e a = rw e (drop-append_seam sheet (drop (length sheet) d.numbers))
 
-  kept_by : (b : Bool) → unfit_schedule sheet ≡ b → (loading d sheet).accepted ≡ false → (loading d sheet).schedule ≡ d
+  kept_by : (b : Bool) → unfit_schedule sheet ≡ b → is_ok (loading d sheet) ≡ false → in_force (loading d sheet) ≡ d
   unfolding loading
   kept_by true e a = rw e
   kept_by false e a = absurd (true≢false (sym (accepted_by false e) ∙ a))
 
-  rejected_by : (b : Bool) → unfit_schedule sheet ≡ b → (Schedule sheet → ⊥) → (loading d sheet).accepted ≡ false
+  rejected_by : (b : Bool) → unfit_schedule sheet ≡ b → (Schedule sheet → ⊥) → is_ok (loading d sheet) ≡ false
   rejected_by true e h = accepted_by true e
   rejected_by false e h = absurd (h ((schedules sheet).0 e))
 
-  fit_by : (b : Bool) → unfit_schedule sheet ≡ b → unfit_schedule (pairs_in d) ≡ false → unfit_schedule (pairs_in (loading d sheet).schedule) ≡ false
+  fit_by : (b : Bool) → unfit_schedule sheet ≡ b → unfit_schedule (pairs_in d) ≡ false → unfit_schedule (pairs_in (in_force (loading d sheet))) ≡ false
   fit_by true e h = ap (λ (x : DefaultSchedule). unfit_schedule (pairs_in x)) (kept_by true e (accepted_by true e)) ∙ h
   fit_by false e h = ap unfit_schedule (taken_by false e (accepted_by false e)) ∙ e
 
@@ -119,7 +73,7 @@ until_all : (d : DefaultSchedule) (sheets : List (List ℕ)) → Rejected sheets
 unfolding after
 until_all d [] h = refl
 until_all d (sheet ∷ sheets) h =
-    let r : (loading d sheet).schedule ≡ d
+    let r : in_force (loading d sheet) ≡ d
     = kept_by d sheet (unfit_schedule sheet) refl (rejected_by d sheet (unfit_schedule sheet) refl (h sheet (Memᴰ.head refl))) in
     let s : after d (sheet ∷ sheets) ≡ after d sheets = cc in
     s ∙ until_all d sheets (λ x m. h x (Memᴰ.tail m))
@@ -130,13 +84,13 @@ after_latest :
 unfolding after
 after_latest d [] sheet y later h =
     let e : unfit_schedule sheet ≡ false = (schedules sheet).1 y in
-    ap pairs_in (until_all (loading d sheet).schedule later h) ∙ taken_by d sheet false e (accepted_by d sheet false e)
-after_latest d (x ∷ sheets) sheet y later h = after_latest (loading d x).schedule sheets sheet y later h
+    ap pairs_in (until_all (in_force (loading d sheet)) later h) ∙ taken_by d sheet false e (accepted_by d sheet false e)
+after_latest d (x ∷ sheets) sheet y later h = after_latest (in_force (loading d x)) sheets sheet y later h
 
 fit_all : (d : DefaultSchedule) (sheets : List (List ℕ)) → unfit_schedule (pairs_in d) ≡ false → unfit_schedule (pairs_in (after d sheets)) ≡ false
 unfolding after
 fit_all d [] h = h
-fit_all d (sheet ∷ sheets) h = fit_all (loading d sheet).schedule sheets (fit_by d sheet (unfit_schedule sheet) refl h)
+fit_all d (sheet ∷ sheets) h = fit_all (in_force (loading d sheet)) sheets (fit_by d sheet (unfit_schedule sheet) refl h)
 
 at_first : pairs_in initial ≡ standard
 unfolding initial

@@ -6,31 +6,21 @@ ghost use Rattle.schedule.specs.DefaultSchedule.{initial, loading};
 use crate::schedule_fails;
 
 // The default schedule: its first `count` numbers, W1, W2, W1, W2, ..
+// A buffer and a count, as the C interface lends them, and of the numbers behind the last `Loads.behind` speaks.
 #[derive(Drop)]
 pub struct DefaultSchedule {
     pub numbers: [u32; 32],
     pub count: u32,
 }
 
-// What loading a sheet gives: whether it was accepted, and the default schedule then in force.
-#[derive(Drop)]
-pub struct Loaded {
-    pub accepted: bool,
-    pub schedule: DefaultSchedule,
-}
-
 // The sheet in front, then the numbers that stood behind its last.
-fn laid(numbers: [u32; 32], sheet: &[u32]) -> [u32; 32]
+#[tactic(auto, unfolding(graph::specs::Lists::over))]
+fn laid(mut numbers: [u32; 32], sheet: &[u32]) -> [u32; 32]
     requires { length sheet.now ≤ 32 }
     ensures { result ≡ over sheet.now numbers }
 {
-    let mut next = numbers;
-    let mut i = 0;
-    while i < sheet.len() {
-        next[i] = sheet[i];
-        i += 1;
-    }
-    next
+    numbers[..sheet.len()].copy_from_slice(sheet);
+    numbers
 }
 
 impl DefaultSchedule {
@@ -43,22 +33,15 @@ impl DefaultSchedule {
         DefaultSchedule { numbers, count: 12 }
     }
 
-    // A sheet of 1 to 16 pairs is loaded; one that row 10 refuses is rejected, and what was in force stays.
-    pub fn load(self, sheet: &[u32]) -> Loaded
+    // A sheet of 1 to 16 pairs is loaded; one that row 10 refuses is rejected, and what was in force is handed back.
+    pub fn load(self, sheet: &[u32]) -> Result<DefaultSchedule, DefaultSchedule>
         ensures { result ≡ loading self sheet.now }
     {
         if schedule_fails(sheet) {
-            return Loaded {
-                accepted: false,
-                schedule: self,
-            };
+            return Err(self);
         }
-        let old = self.numbers;
-        let numbers = laid(old, sheet);
+        let numbers = laid(self.numbers, sheet);
         let count = sheet.len() as u32;
-        Loaded {
-            accepted: true,
-            schedule: DefaultSchedule { numbers, count },
-        }
+        Ok(DefaultSchedule { numbers, count })
     }
 }

@@ -4,8 +4,7 @@
 pub mod default_schedule;
 
 ghost use Rattle.std.specs.Prelude.{◌≤◌, ◌<◌, ◌≡◌, length, get_or};
-ghost use Rattle.search.specs.Call.{or_default, pairs, unfit_schedule};
-ghost use Rattle.schedule.specs.Unfit.{unfit_at};
+ghost use Rattle.search.specs.Call.{or_default, out_of_range, rising, unfit_schedule, pairs};
 
 use search::Factors;
 
@@ -20,53 +19,41 @@ const MOST_FACTOR: u32 = 10000;
 pub fn or_default<'a>(given: &'a [u32], default_schedule: &'a [u32]) -> &'a [u32]
     ensures { result.now ≡ or_default default_schedule.now given.now }
 {
-    if given.len() == 0 {
-        return default_schedule;
+    if given.is_empty() {
+        default_schedule
+    } else {
+        given
     }
-    given
 }
 
-// Number i is out of range, or that of the next round is above it.
-fn unfit(schedule: &[u32], i: usize) -> bool
-    requires { i < length schedule.now }
-    ensures { result ≡ unfit_at schedule.now i }
+// A factor is outside 100 to 10,000.
+fn out_of_range(schedule: &[u32]) -> bool
+    ensures { result ≡ out_of_range schedule.now }
 {
-    let factor = schedule[i];
-    if factor < LEAST_FACTOR {
-        return true;
-    }
-    if MOST_FACTOR < factor {
-        return true;
-    }
-    let left = schedule.len() - i;
-    if left <= 2 {
-        return false;
-    }
-    factor < schedule[i + 2]
+    schedule
+        .iter()
+        .any(|w| !(LEAST_FACTOR..=MOST_FACTOR).contains(w))
+}
+
+// W1 or W2 is above that of the round before.
+fn rising(schedule: &[u32]) -> bool
+    ensures { result ≡ rising schedule.now }
+{
+    schedule
+        .iter()
+        .zip(schedule.iter().skip(2))
+        .any(|(w, next)| w < next)
 }
 
 // Row 10: a schedule is unfit: empty, over 16 rounds, odd, out of range or rising.
 pub fn schedule_fails(schedule: &[u32]) -> bool
     ensures { result ≡ unfit_schedule schedule.now }
 {
-    let numbers = schedule.len();
-    if numbers == 0 {
-        return true;
-    }
-    if MAX_COUNT < numbers {
-        return true;
-    }
-    if numbers % 2 == 1 {
-        return true;
-    }
-    let mut i = 0;
-    while i < numbers {
-        if unfit(schedule, i) {
-            return true;
-        }
-        i += 1;
-    }
-    false
+    schedule.is_empty()
+        || MAX_COUNT < schedule.len()
+        || schedule.len() % 2 == 1
+        || out_of_range(schedule)
+        || rising(schedule)
 }
 
 // How many rounds a schedule has, where it has at most 32 numbers.

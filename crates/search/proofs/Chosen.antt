@@ -3,9 +3,8 @@ use mathlib.Core.List.{List}
 use Prim.Native.Nat.{ℕ}
 use Rattle.search.specs.declared.Vertex.{Vertex}
 use Rattle.search.specs.declared.Factors.{Factors}
-use Rattle.search.specs.declared.Best.{Best}
+use Rattle.search.specs.Turn.{Best, is_anchor, least, candidate, choose}
 use Rattle.search.specs.Job.{Job, heuristic}
-use Rattle.search.specs.Turn.{is_anchor, least, candidate, choose}
 use Rattle.search.proofs.Tools.{cond_ind}
 use Rattle.search.proofs.Facts.{InRange}
 use Rattle.search.proofs.Least.{least_is}

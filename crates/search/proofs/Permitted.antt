@@ -7,7 +7,7 @@ use native.Mathlib.Nat.{mod-lt, mod-add-div', one-le-pow, div-eq_of_lt, add-mul-
 use native.Mathlib.Omega.{arith}
 use borrow.Author.Tests.{eqb-true, eqb-false, eq-eqb, ne_eqb}
 use Rattle.graph.specs.declared.Edge.{Edge}
-use Rattle.search.specs.declared.RouteCost.TheVariants.{Cost}
+use Rattle.std.specs.Prelude.{Some}
 use Rattle.search.specs.Walk.{Walk, here, along, route_cost}
 use Rattle.search.specs.Permitted.{barred_by, permitted, Bit, InOrder, end, kept, dropped, Permits}
 use Rattle.search.proofs.Facts.{OneCost}
@@ -122,5 +122,5 @@ walk_more sub (here a) = here a
 walk_more sub (along e m w) = along e (sub e m) (walk_more sub w)
 
 -- at the same cost
-pub same_cost : (b : ℕ) (es : List Edge) → OneCost es → {x y n : ℕ} {r : List ℕ} → Walk (permitted b es) x y r n → route_cost es r ≡ Cost n
+pub same_cost : (b : ℕ) (es : List Edge) → OneCost es → {x y n : ℕ} {r : List ℕ} → Walk (permitted b es) x y r n → route_cost es r ≡ Some n
 same_cost b es one w = walk_cost es one (walk_more (permitted_in b es) w)

@@ -10,6 +10,8 @@ use lib.ListN.{length, get_or}
 use lib.Dec.{ltb}
 use mir.Facts.{ltb_no, or_no}
 use borrow.Author.Tests.{lt-ltb, le-ltb, ltb-true, ltb-false}
+use Rattle.graph.specs.declared.refusal.Cause.{Cause}
+use Rattle.graph.specs.declared.refusal.Cause.TheVariants as cause
 use Rattle.graph.specs.declared.Edge.{Edge}
 use Rattle.graph.specs.Plan.{Decoded, accepted, refused, decode}
 use Rattle.graph.specs.Lists.{Fault, none, fault, edges_in}
@@ -18,7 +20,10 @@ use Rattle.graph.proofs.Tests.{and_true, not_true}
 use Rattle.graph.proofs.Within.{accepted_within}
 use Rattle.search.specs.declared.Vertex.{Vertex}
 use Rattle.search.specs.declared.Answer.{Answer}
-use Rattle.search.specs.declared.Answer.TheVariants.{NoRoute, Unfinished, Refused}
+use Rattle.search.specs.declared.Answer.TheVariants.{Route, NoRoute, Unfinished}
+use Rattle.std.specs.Prelude.{Result, Ok, Err}
+use Rattle.graph.specs.declared.refusal.Refusal.{Refusal}
+use Rattle.graph.specs.Refusal.{refusal_of}
 use Rattle.search.specs.declared.Answer.TheVariants
 use Rattle.search.specs.declared.Step.TheVariants.{Stuck}
 use Rattle.search.specs.Walk.{Walk, NoWalk, here}
@@ -146,7 +151,7 @@ module _ (x : Inquiry) where
 
   clear_lists : (v m : ℕ) → lists_row x v m ≡ none → (v ≤ length x.vertices) × (m ≤ length x.edges)
   unfolding lists_row
-  clear_lists v m h = let t = or_no (ltb (length x.vertices) v) _ (row_none _ 11 0 h) in (ltb_no t.0, ltb_no t.1)
+  clear_lists v m h = let t = or_no (ltb (length x.vertices) v) _ (row_none _ cause.Memory 0 h) in (ltb_no t.0, ltb_no t.1)
 
   own_by : (d : Decoded) → (job_from c d).size ≤ length x.vertices → length (edges_in d) ≤ length x.edges → inquiry_fault_in x d ≡ fault_in c d
   unfolding inquiry_fault_in fault_in job_from job_in edges_in
@@ -170,7 +175,7 @@ module _ (x : Inquiry) where
   unrefused h = sym (own (roomy h)) ∙ h
 
   -- a list is too short: the rows before 11, the call's own 11 or none, and 11
-  eleven : (p q r : Fault) (t : Bool) (ss us : List Fault) → first (p ∷ q ∷ r ∷ row t 11 0 ∷ fault 11 0 ∷ ss) ≡ first (p ∷ q ∷ r ∷ fault 11 0 ∷ us)
+  eleven : (p q r : Fault) (t : Bool) (ss us : List Fault) → first (p ∷ q ∷ r ∷ row t cause.Memory 0 ∷ fault cause.Memory 0 ∷ ss) ≡ first (p ∷ q ∷ r ∷ fault cause.Memory 0 ∷ us)
   unfolding first row
   eleven (fault i j) q r t ss us = refl
   eleven none (fault i j) r t ss us = refl
@@ -178,15 +183,15 @@ module _ (x : Inquiry) where
   eleven none none none true ss us = refl
   eleven none none none false ss us = refl
 
-  none_lent : (v m : ℕ) → 1 ≤ v → memory_row (without_route c) v m ≡ fault 11 0
+  none_lent : (v m : ℕ) → 1 ≤ v → memory_row (without_route c) v m ≡ fault cause.Memory 0
   unfolding memory_row row
   none_lent v m l = rw (lt-ltb 0 v l)
 
-  lists_short : (v m : ℕ) → ((v ≤ length x.vertices) × (m ≤ length x.edges) → ⊥) → lists_row x v m ≡ fault 11 0
+  lists_short : (v m : ℕ) → ((v ≤ length x.vertices) × (m ≤ length x.edges) → ⊥) → lists_row x v m ≡ fault cause.Memory 0
   unfolding lists_row row
   lists_short v m n = by (ltb (length x.vertices) v) (ltb (length x.edges) m) refl refl
     where
-      by : (a b : Bool) → ltb (length x.vertices) v ≡ a → ltb (length x.edges) m ≡ b → cond (a || b) (fault 11 0) none ≡ fault 11 0
+      by : (a b : Bool) → ltb (length x.vertices) v ≡ a → ltb (length x.edges) m ≡ b → cond (a || b) (fault cause.Memory 0) none ≡ fault cause.Memory 0
       by true b e f = refl
       by false true e f = refl
       by false false e f = absurd (n (ltb-false _ _ e, ltb-false _ _ f))
@@ -204,7 +209,7 @@ module _ (x : Inquiry) where
   unfolding inquiry_fault fault_of job_of plan_edges
   short n = short_by (decode c.bytes) refl (λ r. n (record { vertices = r.0; edges = r.1 }))
 
-  refusal : (n p : ℕ) → inquiry_fault x ≡ fault n p → (answered x ≡ Refused n p) × (call_memory x ≡ c.memory)
+  refusal : (n : Cause) (p : ℕ) → inquiry_fault x ≡ fault n p → (answered x ≡ Err (refusal_of n p)) × (call_memory x ≡ c.memory)
   unfolding answered call_memory answer_in memory_in
   refusal n p e = rw e (refl, refl)
 
@@ -214,26 +219,26 @@ module _ (x : Inquiry) where
 
   -- ---- what is listed
 
-  listed_all : (a : Answer) (l : List ℕ) → (figures a).ending ≡ no_route → listed_at a l ≡ l
+  listed_all : (a : Result Answer Refusal) (l : List ℕ) → (figures a).ending ≡ no_route → listed_at a l ≡ l
   unfolding listed_at figures code
-  listed_all (TheVariants.Route s) l h = absurd (apart h tt)
-  listed_all (NoRoute t) l h = refl
-  listed_all (Unfinished t) l h = absurd (apart h tt)
-  listed_all (Refused n p) l h = absurd (apart h tt)
+  listed_all (Ok (TheVariants.Route s)) l h = absurd (apart h tt)
+  listed_all (Ok (NoRoute t)) l h = refl
+  listed_all (Ok (Unfinished t)) l h = absurd (apart h tt)
+  listed_all (Err e) l h = absurd (apart h tt)
 
-  listed_none : (a : Answer) (l : List ℕ) → ((figures a).ending ≡ no_route → ⊥) → listed_at a l ≡ []
+  listed_none : (a : Result Answer Refusal) (l : List ℕ) → ((figures a).ending ≡ no_route → ⊥) → listed_at a l ≡ []
   unfolding listed_at figures
-  listed_none (TheVariants.Route s) l h = refl
-  listed_none (NoRoute t) l h = absurd (h refl)
-  listed_none (Unfinished t) l h = refl
-  listed_none (Refused n p) l h = refl
+  listed_none (Ok (TheVariants.Route s)) l h = refl
+  listed_none (Ok (NoRoute t)) l h = absurd (h refl)
+  listed_none (Ok (Unfinished t)) l h = refl
+  listed_none (Err e) l h = refl
 
-  listed_few : (a : Answer) (l : List ℕ) → length (listed_at a l) ≤ length l
+  listed_few : (a : Result Answer Refusal) (l : List ℕ) → length (listed_at a l) ≤ length l
   unfolding listed_at
-  listed_few (TheVariants.Route s) l = omega arith
-  listed_few (NoRoute t) l = omega arith
-  listed_few (Unfinished t) l = omega arith
-  listed_few (Refused n p) l = omega arith
+  listed_few (Ok (TheVariants.Route s)) l = omega arith
+  listed_few (Ok (NoRoute t)) l = omega arith
+  listed_few (Ok (Unfinished t)) l = omega arith
+  listed_few (Err e) l = omega arith
 
   -- only a call that is not refused ends without a route
   fault_none : (f : Fault) → inquiry_fault x ≡ f → (figures (answer_in c f)).ending ≡ no_route → inquiry_fault x ≡ none

@@ -1,13 +1,17 @@
 -- The explanation of "no route" (E8): a planner call made once more, and where its answer is no route, the vertices (places) that the tug can reach
 -- and the barred edges (lanes) that leave them.
-use Rattle.std.specs.Prelude.{ℕ, suc, ◌≤◌, ◌<◌, ◌≡◌, ◌↔◌, Bool, cond, not, ◌&&◌, ◌||◌, length, get_or, ltb}
+use Rattle.graph.specs.declared.refusal.Cause.{Cause}
+use Rattle.graph.specs.declared.refusal.Refusal.{Refusal}
+use Rattle.graph.specs.declared.refusal.Cause.TheVariants as cause
+use Rattle.std.specs.Prelude.{ℕ, suc, ◌≤◌, ◌<◌, ◌≡◌, ◌↔◌, Bool, cond, not, ◌&&◌, ◌||◌, length, get_or, ltb, Result, Ok, Err}
 use mathlib.Core.List.{List, [], ◌∷◌, ◌++◌, Memᴰ}
 use Rattle.graph.specs.declared.Edge.{Edge}
 use Rattle.graph.specs.Plan.{Decoded, accepted, refused, decode}
 use Rattle.graph.specs.Lists.{Fault, none, fault, over}
 use Rattle.search.specs.declared.Vertex.{Vertex}
 use Rattle.search.specs.declared.Answer.{Answer}
-use Rattle.search.specs.declared.Answer.TheVariants.{Route, NoRoute, Unfinished, Refused}
+use Rattle.search.specs.declared.Answer.TheVariants.{Route, NoRoute, Unfinished}
+use Rattle.graph.specs.Refusal.{refusal_of}
 use Rattle.search.specs.declared.Explanation.{Explanation}
 use Rattle.search.specs.Walk.{Walk}
 use Rattle.search.specs.Permitted.{barred_by, Bit}
@@ -28,7 +32,7 @@ pub record Inquiry : Type 0 where
 
 -- 11 also: fewer than V words for the vertices, or M for the edges
 unfoldable pub lists_row : Inquiry → ℕ → ℕ → Fault
-lists_row x v m = row (ltb (length x.vertices) v || ltb (length x.edges) m) 11 0
+lists_row x v m = row (ltb (length x.vertices) v || ltb (length x.edges) m) cause.Memory 0
 
 -- the same rows downwards, this one beside the call's own 11
 unfoldable pub inquiry_fault_in : Inquiry → Decoded → Fault
@@ -40,7 +44,7 @@ unfoldable pub inquiry_fault : Inquiry → Fault
 inquiry_fault x = inquiry_fault_in x (decode x.call.bytes)
 
 -- the call's answer, or the inquiry's refusal
-unfoldable pub answered : Inquiry → Answer
+unfoldable pub answered : Inquiry → Result Answer Refusal
 answered x = answer_in x.call (inquiry_fault x)
 
 -- the call's memory then: as the call leaves it; untouched where the inquiry is refused
@@ -75,11 +79,11 @@ unfoldable pub leaving : Call → List ℕ
 leaving c = numbers_of (leaves c.barred (last_vertices c)) 0 (plan_edges c)
 
 -- nothing is listed unless the answer is no route
-unfoldable pub listed_at : Answer → List ℕ → List ℕ
-listed_at (Route s) l = []
-listed_at (NoRoute t) l = l
-listed_at (Unfinished t) l = []
-listed_at (Refused n p) l = []
+unfoldable pub listed_at : Result Answer Refusal → List ℕ → List ℕ
+listed_at (Ok (Route s)) l = []
+listed_at (Ok (NoRoute t)) l = l
+listed_at (Ok (Unfinished t)) l = []
+listed_at (Err e) l = []
 
 unfoldable pub vertices_listed : Inquiry → List ℕ
 vertices_listed x = listed_at (answered x) (reached x.call)
@@ -163,7 +167,7 @@ pub record Reasoned (x : Inquiry) : Type 0 where
   -- before 11 applies
   pub own : ListRoom x → inquiry_fault x ≡ fault_of x.call
   pub short : (ListRoom x → ⊥) → inquiry_fault x ≡ fault_of (without_route x.call)
-  pub refusal : (n p : ℕ) → inquiry_fault x ≡ fault n p → (answered x ≡ Refused n p) × (call_memory x ≡ x.call.memory)
+  pub refusal : (n : Cause) (p : ℕ) → inquiry_fault x ≡ fault n p → (answered x ≡ Err (refusal_of n p)) × (call_memory x ≡ x.call.memory)
   -- else answer and memory are those of the call, of which its guarantee speaks
   pub same : inquiry_fault x ≡ none → (answered x ≡ answer x.call) × (call_memory x ≡ memory_after x.call)
   -- the answer is no route: the lists say why; else nothing is listed, and so lent lists are as they were

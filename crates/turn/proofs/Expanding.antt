@@ -16,26 +16,29 @@ use Rattle.search.specs.Turn.{lowered, relax, relax_all, marked, expand}
 use Rattle.search.proofs.Moves.{length_relax_all}
 use Rattle.search.proofs.Permitted.{permitted_append}
 use Rattle.search.proofs.Tools.{cond_false, same_cases}
-use Rattle.workspace.specs.declared.Size.{Size}
-use Rattle.workspace.specs.Layout.{Words, vertices_of, written, first_of, edge_at, edges_run, edges_at, edges_under, graph_of, Ready, Becomes}
-use Rattle.workspace.proofs.Written.{length_vertices_of, vertices_of_written, written_written, length_stored, unchanged, ready_loaded, graph_of_written, ready_kept, length_kept, wide_kept, edge_kept, then_vertices, then_kept}
+use Rattle.graph.specs.declared.Size.{Size}
+use Rattle.workspace.specs.declared.Workspace.{Workspace}
+use Rattle.workspace.specs.Layout.{written, first_of, edge_at, edges_run, edges_at, edges_under, graph_of}
+use Rattle.workspace.specs.Space.{space_words, space_vertices, space_edges, Stores}
+use Rattle.workspace.proofs.Written.{length_stored}
+use Rattle.workspace.proofs.Spaces.{length_vertices_in, stores_none, stores_vertices, stores_edges, stores_edge, stores_then, kept_more}
 
 -- ---- one edge
 
-module _ (z : Size) (s c : ℕ) (e : Edge) (m : Words) where
+module _ (s c : ℕ) (e : Edge) (w : Workspace) where
   -- the head of the edge
   abbrev x : Vertex
-  x = at (vertices_of z m) e.head
+  x = at (space_vertices w) e.head
 
   pub relax_taken :
-      (m' : Words) → ltb (c + e.cost) x.g ≡ true → Becomes z (set (vertices_of z m) e.head (lowered (c + e.cost) s x)) m m' →
-      Becomes z (relax s c e (vertices_of z m)) m m'
+      (w' : Workspace) → ltb (c + e.cost) x.g ≡ true → Stores (set (space_vertices w) e.head (lowered (c + e.cost) s x)) w w' →
+      Stores (relax s c e (space_vertices w)) w w'
   unfolding relax
-  relax_taken m' h f = rw h f
+  relax_taken w' h f = rw h f
 
-  pub relax_left : ltb (c + e.cost) x.g ≡ false → Ready z m → Becomes z (relax s c e (vertices_of z m)) m m
+  pub relax_left : ltb (c + e.cost) x.g ≡ false → Stores (relax s c e (space_vertices w)) w w
   unfolding relax
-  relax_left h r = rw h (unchanged z m r)
+  relax_left h = rw h (stores_none w)
 
 -- ---- all edges
 
@@ -109,90 +112,86 @@ module _ (z : Size) (w : List ℕ) (b s c : ℕ) where
 
 -- ---- edge j of s tried, or barred
 
-module _ (z : Size) (b s c j : ℕ) (m : Words) where
+module _ (b s c j : ℕ) (w : Workspace) where
   abbrev e : Edge
-  e = edge_at z m.work s j
+  e = edge_at w.size w.work.now s j
 
-  pub edge_barred : barred_by b e.class ≡ true → Ready z m → Becomes z (tried b s c (e ∷ []) (vertices_of z m)) m m
+  pub edge_barred : barred_by b e.class ≡ true → Stores (tried b s c (e ∷ []) (space_vertices w)) w w
   unfolding permitted relax_all
-  edge_barred h r = rw h (unchanged z m r)
+  edge_barred h = rw h (stores_none w)
 
   pub edge_tried :
-      (m' : Words) → barred_by b e.class ≡ false → Becomes z (relax s c e (vertices_of z m)) m m' →
-      Becomes z (tried b s c (e ∷ []) (vertices_of z m)) m m'
+      (w' : Workspace) → barred_by b e.class ≡ false → Stores (relax s c e (space_vertices w)) w w' →
+      Stores (tried b s c (e ∷ []) (space_vertices w)) w w'
   unfolding permitted relax_all
-  edge_tried m' h f = rw (h, eq-eqb e.tail s (edge_tail z m.work s j)) f
+  edge_tried w' h f = rw (h, eq-eqb e.tail s (edge_tail w.size w.work.now s j)) f
 
--- ---- the loop over the edges of s, from the first to before e: m₀ before it, m where edge j is next
+-- ---- the loop over the edges of s, from the first to before e: w₀ before it, w where edge j is next
 
-pub record Tried (z : Size) (b s c first e : ℕ) (m₀ m : Words) (j : ℕ) : Type 0 where
-  pub kept : Becomes z (vertices_of z m) m₀ m
+pub record Tried (b s c first e : ℕ) (w₀ w : Workspace) (j : ℕ) : Type 0 where
+  pub kept : Stores (space_vertices w) w₀ w
   pub rest :
-      tried b s c (edges_run z m₀.work s (e - j) j) (vertices_of z m)
-      ≡ tried b s c (edges_run z m₀.work s (e - first) first) (vertices_of z m₀)
+      tried b s c (edges_run w₀.size w₀.work.now s (e - j) j) (space_vertices w)
+      ≡ tried b s c (edges_run w₀.size w₀.work.now s (e - first) first) (space_vertices w₀)
 
-module _ (z : Size) (b s c first e : ℕ) (m₀ : Words) (r : Ready z m₀) where
-  pub tried_none : Tried z b s c first e m₀ m₀ first
-  tried_none = record { kept = unchanged z m₀ r; rest = refl }
+module _ (b s c first e : ℕ) (w₀ : Workspace) where
+  pub tried_none : Tried b s c first e w₀ w₀ first
+  tried_none = record { kept = stores_none w₀; rest = refl }
 
-  module _ (m : Words) (j : ℕ) (k : Tried z b s c first e m₀ m j) where
-    pub tried_ready : Ready z m
-    tried_ready = ready_kept z m₀ m r k.kept
-
-    pub tried_length : length m.work ≡ length m₀.work
-    tried_length = length_kept z m₀ m r k.kept
-
-    pub tried_wide : length m.wide ≡ length m₀.wide
-    tried_wide = wide_kept z m₀ m r k.kept
+  module _ (w : Workspace) (j : ℕ) (k : Tried b s c first e w₀ w j) where
+    counted : length (space_vertices w) ≡ w₀.size.vertices
+    counted = length_vertices_in w ∙ ap (λ (z : Size). z.vertices) k.kept.lent.size_is
 
     pub tried_next :
-        (m' : Words) → j < e → j < z.edges → Becomes z (tried b s c (edge_at z m.work s j ∷ []) (vertices_of z m)) m m' →
-        Tried z b s c first e m₀ m' (j + 1)
-    tried_next m' h i f =
-        let x : List Vertex = tried b s c (edge_at z m.work s j ∷ []) (vertices_of z m) in
-        let l : length x ≡ z.vertices = length_relax_all s c _ (vertices_of z m) ∙ length_vertices_of z m in
+        (w' : Workspace) → j < e → j < w₀.size.edges → Stores (tried b s c (edge_at w.size w.work.now s j ∷ []) (space_vertices w)) w w' →
+        Tried b s c first e w₀ w' (j + 1)
+    tried_next w' h i f =
+        let x : List Vertex = tried b s c (edge_at w.size w.work.now s j ∷ []) (space_vertices w) in
+        let l : length x ≡ w.size.vertices = length_relax_all s c _ (space_vertices w) ∙ length_vertices_in w in
         record {
-          kept = then_kept z m₀ m r k.kept x m' l f;
+          kept = kept_more w₀ w w' k.kept x l f;
           rest =
-              ap (tried b s c (edges_run z m₀.work s (e - (j + 1)) (j + 1)))
-              (then_vertices z m₀ m r k.kept x m' l f
-              ∙ ap (λ (y : Edge). tried b s c (y ∷ []) (vertices_of z m)) (edge_kept z m₀ m r k.kept s j i))
-              ∙ sym (run_step z m₀.work b s c e j (vertices_of z m) h)
+              ap (tried b s c (edges_run w₀.size w₀.work.now s (e - (j + 1)) (j + 1)))
+              (stores_vertices w w' x l f
+              ∙ ap (λ (y : Edge). tried b s c (y ∷ []) (space_vertices w)) (stores_edge w₀ w (space_vertices w) counted k.kept s j i))
+              ∙ sym (run_step w₀.size w₀.work.now b s c e j (space_vertices w) h)
               ∙ k.rest;
         }
 
     pub tried_all :
-        s < z.vertices → e ≤ j → first ≡ first_of m₀.work s → e ≡ first_of m₀.work (s + 1) →
-        Becomes z (tried b s c (graph_of z m₀.work) (vertices_of z m₀)) m₀ m
+        s < w₀.size.vertices → e ≤ j → first ≡ first_of w₀.work.now s → e ≡ first_of w₀.work.now (s + 1) →
+        Stores (tried b s c (space_edges w₀) (space_vertices w₀)) w₀ w
     unfolding edges_at
     tried_all h l p q =
-        let w : List ℕ = m₀.work in
-        let y : vertices_of z m ≡ tried b s c (edges_run z w s (first_of w (suc s) - first_of w s) (first_of w s)) (vertices_of z m₀) =
-        sym (run_end z w b s c e j (vertices_of z m) l) ∙ k.rest ∙ rw (p, q, add-one) refl in
-        record { words = k.kept.words ∙ ap (λ (x : List Vertex). written z x m₀) (y ∙ sym (tried_of z w b s c (vertices_of z m₀) h)) }
+        let z : Size = w₀.size in
+        let m : List ℕ = w₀.work.now in
+        let y : space_vertices w ≡ tried b s c (edges_run z m s (first_of m (suc s) - first_of m s) (first_of m s)) (space_vertices w₀) =
+        sym (run_end z m b s c e j (space_vertices w) l) ∙ k.rest ∙ rw (p, q, add-one) refl in
+        record {
+          lent = k.kept.lent;
+          becomes =
+              record {
+                words =
+                    k.kept.becomes.words
+                    ∙ ap (λ (x : List Vertex). written z x (space_words w₀)) (y ∙ sym (tried_of z m b s c (space_vertices w₀) h));
+              };
+        }
 
--- ---- expanding: m before, u with the vertex marked, y after its edges
+-- ---- expanding: w before, u with the vertex marked, y after its edges
 
-module _ (z : Size) (m u : Words) (i s : ℕ) (r : Ready z m)
-    (f : Becomes z (set (vertices_of z m) s (marked i (at (vertices_of z m) s))) m u) where
+module _ (w u : Workspace) (i s : ℕ) (f : Stores (set (space_vertices w) s (marked i (at (space_vertices w) s))) w u) where
   abbrev after : List Vertex
-  after = set (vertices_of z m) s (marked i (at (vertices_of z m) s))
+  after = set (space_vertices w) s (marked i (at (space_vertices w) s))
 
-  after_length : length after ≡ z.vertices
-  after_length = length_stored z m s (marked i (at (vertices_of z m) s))
-
-  pub marked_ready : Ready z u
-  marked_ready = rw f.words (ready_loaded z m r.room r.graph after after_length)
+  after_length : length after ≡ w.size.vertices
+  after_length = length_stored w.size (space_words w) s (marked i (at (space_vertices w) s))
 
   pub expanded :
-      (b : ℕ) (y : Words) → Becomes z (tried b s (at (vertices_of z m) s).g (graph_of z u.work) (vertices_of z u)) u y →
-      Becomes z (expand (permitted b (graph_of z m.work)) i s (vertices_of z m)) m y
+      (b : ℕ) (y : Workspace) → Stores (tried b s (at (space_vertices w) s).g (space_edges u) (space_vertices u)) u y →
+      Stores (expand (permitted b (space_edges w)) i s (space_vertices w)) w y
   unfolding expand
   expanded b y g =
-      let c : ℕ = (at (vertices_of z m) s).g in
-      let es : List Edge = permitted b (graph_of z m.work) in
-      let p : vertices_of z u ≡ after = ap (vertices_of z) f.words ∙ vertices_of_written z m r.room after after_length in
-      let q : graph_of z u.work ≡ graph_of z m.work = ap (λ (x : Words). graph_of z x.work) f.words ∙ graph_of_written z m r.room r.graph after after_length in
-      record {
-        words = g.words ∙ rw (p, q, f.words) (written_written z m r.room after after_length (relax_all s c es after) (length_relax_all s c es after));
-      }
+      let c : ℕ = (at (space_vertices w) s).g in
+      let es : List Edge = permitted b (space_edges w) in
+      stores_then w u after after_length f y (relax_all s c es after) (length_relax_all s c es after ∙ after_length)
+      (rw (stores_vertices w u after after_length f, stores_edges w u after after_length f) at g)

@@ -5,32 +5,19 @@ use mathlib.Core.Bool.{Bool, true, false, cond}
 use mathlib.Core.List.{List, [], ◌∷◌}
 use native.Mathlib.Nat.{suc-mul, zero-mul, not-suc-le-zero, le_of_suc-le-suc}
 use native.Mathlib.Omega.{arith}
-use borrow.Author.Tests.{lt-ltb, le-ltb, eq-eqb, ne_eqb}
-use lib.Dec.{leb, ltb}
+use borrow.Author.Tests.{eq-eqb, ne_eqb}
+use lib.Dec.{leb}
 use lib.ListN.{get_or, take, drop}
 use lib.Seq.{drop-drop}
-use Rattle.search.specs.declared.Best.{Best}
-use Rattle.search.specs.declared.Best.TheVariants.{Nobody, Found}
+use Rattle.std.specs.Prelude.{Some, None}
+use Rattle.search.specs.Turn.{Best, least, candidate, choose}
 use Rattle.search.specs.declared.Choice.{Choice}
 use Rattle.search.specs.declared.Vertex.{Vertex}
-use Rattle.search.specs.Turn.{least, candidate, choose}
 use Rattle.search.specs.Call.{tables}
 use Rattle.search.specs.Bounds.{Within}
-use Rattle.search.proofs.Tools.{le_cases}
 use Rattle.turn.specs.Asked.{sheet}
 
 -- ---- bounds
-
--- a sum is below a number where one part is below what the other leaves
-module _ (g c n : ℕ) where
-  pub sum_below : c < n → ltb g (n - c) ≡ ltb (g + c) n
-  sum_below h =
-      le_cases (n - c) g
-      (λ l. le-ltb g (n - c) l ∙ sym (le-ltb (g + c) n (omega arith)))
-      (λ l. lt-ltb g (n - c) l ∙ sym (lt-ltb (g + c) n (omega arith)))
-
-  pub sum_not_below : n ≤ c → false ≡ ltb (g + c) n
-  sum_not_below h = sym (le-ltb (g + c) n (omega arith))
 
 module _ (n : ℕ) where
   -- what step 3 chooses is within bounds
@@ -40,8 +27,8 @@ module _ (n : ℕ) where
 
   pub choose_inside : (w2 m a i : ℕ) (b : Best) → Within n b → a < n → Inside i (choose w2 m a i b)
   unfolding choose
-  choose_inside w2 m a i Nobody h p = record { vertex = p; heuristic = omega arith }
-  choose_inside w2 m a i (Found k s) h p = go (leb (100 * k) (w2 * m))
+  choose_inside w2 m a i None h p = record { vertex = p; heuristic = omega arith }
+  choose_inside w2 m a i (Some (k, s)) h p = go (leb (100 * k) (w2 * m))
     where
       go : (t : Bool) → Inside i (cond t (record { heuristic = i; vertex = s }) (record { heuristic = 0; vertex = a }))
       go true = record { vertex = h.vertex k s refl; heuristic = omega arith }
@@ -49,13 +36,8 @@ module _ (n : ℕ) where
 
 -- ---- sheets
 
--- sheet i lies within i sheets
-pub sheet_fits : (i v : ℕ) → (i ≡ 0 → ⊥) → (i - 1) * v + v ≤ i * v
-sheet_fits zero v h = absurd (h refl)
-sheet_fits (suc i) v h = let e : suc i - 1 ≡ i = omega arith in rw e (omega (arith, suc-mul i v))
-
 module _ (w1 : ℕ) (st : List Vertex) where
-  pub candidate_none : (i : ℕ) (hs : List ℕ) → i ≡ 0 → candidate i w1 hs st ≡ Nobody
+  pub candidate_none : (i : ℕ) (hs : List ℕ) → i ≡ 0 → candidate i w1 hs st ≡ None
   unfolding candidate
   candidate_none i hs e = simp (eq-eqb i 0 e)
 

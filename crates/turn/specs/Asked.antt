@@ -5,8 +5,8 @@ use Rattle.search.specs.declared.Choice.{Choice}
 use Rattle.search.specs.declared.Factors.{Factors}
 use Rattle.search.specs.Turn.{candidate, choose}
 use Rattle.search.specs.Bounds.{max_factor, Priced}
-use Rattle.workspace.specs.declared.Size.{Size}
-use Rattle.workspace.specs.Layout.{Words, vertices_of, Ready}
+use Rattle.graph.specs.declared.Size.{Size}
+use Rattle.workspace.specs.Layout.{Words, vertices_of}
 
 -- the numbers of inadmissible heuristic i (guide sheet i) among the flat sheets, v numbers each
 unfoldable pub sheet : ℕ → ℕ → List ℕ → List ℕ
@@ -22,7 +22,6 @@ choice_word c = c.vertex + 65536 * c.heuristic
 
 -- what a turn of heuristic i asks of its arguments
 pub record Asked (z : Size) (f : Factors) (guides : List ℕ) (m : Words) (i : ℕ) : Type 0 where
-  pub ready : Ready z m
   pub priced : Priced (vertices_of z m)
   pub sheets : i * z.vertices ≤ length guides
   pub few : i ≤ 8

@@ -2,57 +2,55 @@
 ghost use Rattle.std.specs.Prelude.{◌<◌, [], ◌∷◌};
 ghost use Rattle.search.specs.Permitted.{permitted};
 ghost use Rattle.search.specs.Turn.{relax, relax_all, expand};
-ghost use Rattle.workspace.specs.Layout.{mem, vertices_of, edge_at, graph_of, Ready, Becomes};
+ghost use Rattle.workspace.specs.Layout.{edge_at};
+ghost use Rattle.workspace.specs.Space.{space_vertices, space_edges, Stores};
 
 use crate::vertices;
 use graph::Edge;
-use workspace::{Size, edge_words, vertex_words};
+use workspace::Workspace;
 
 // Tries an edge of s, where g is that of s.
-fn relax(work: &mut [u32], wide: &mut [u64], z: Size, s: u32, g: u64, e: Edge)
-    requires { Ready z (mem work.old wide.old) × (e.head < z.vertices) }
-    ensures { Becomes z (relax s g e (vertices_of z (mem work.old wide.old))) (mem work.old wide.old) (mem work.new wide.new) }
+fn relax(space: &mut Workspace<'_>, s: u32, g: u64, e: Edge)
+    requires { e.head < space.old.size.vertices }
+    ensures { Stores (relax s g e (space_vertices space.old)) space.old space.new }
 {
-    let head = e.head;
-    let cost = e.cost;
-    let x = vertex_words::load(work, wide, z, head);
-    if vertices::undercuts(g, cost, x.g) {
-        let c = g + (cost as u64);
-        vertex_words::store(work, wide, z, head, vertices::lowered(x, c, s));
+    let x = space.vertex(e.head);
+    if vertices::undercuts(g, e.cost, x.g) {
+        let c = g + u64::from(e.cost);
+        space.set_vertex(e.head, vertices::lowered(x, c, s));
     }
 }
 
 // Tries edge j, of s, unless its class is barred; g is that of s.
-fn try_edge(work: &mut [u32], wide: &mut [u64], z: Size, barred: u32, s: u32, g: u64, j: u32)
-    requires { Ready z (mem work.old wide.old) × (j < z.edges) }
-    ensures { Becomes z (relax_all s g (permitted barred (edge_at z work.old s j ∷ [])) (vertices_of z (mem work.old wide.old))) (mem work.old wide.old) (mem work.new wide.new) }
+fn try_edge(space: &mut Workspace<'_>, barred: u32, s: u32, g: u64, j: u32)
+    requires { j < space.old.size.edges }
+    ensures { Stores (relax_all s g (permitted barred (edge_at space.old.size space.old.work.now s j ∷ [])) (space_vertices space.old)) space.old space.new }
 {
-    let e = edge_words::edge(work, z, s, j);
+    let e = space.graph().edge(s, j);
     if !barring::bars(barred, e.class) {
-        relax(work, wide, z, s, g, e);
+        relax(space, s, g, e);
     }
 }
 
 // Tries the edges of s that are not barred, where g is that of s.
-fn relax_all(work: &mut [u32], wide: &mut [u64], z: Size, barred: u32, s: u32, g: u64)
-    requires { Ready z (mem work.old wide.old) × (s < z.vertices) }
-    ensures { Becomes z (relax_all s g (permitted barred (graph_of z work.old)) (vertices_of z (mem work.old wide.old))) (mem work.old wide.old) (mem work.new wide.new) }
+fn relax_all(space: &mut Workspace<'_>, barred: u32, s: u32, g: u64)
+    requires { s < space.old.size.vertices }
+    ensures { Stores (relax_all s g (permitted barred (space_edges space.old)) (space_vertices space.old)) space.old space.new }
 {
-    let mut j = edge_words::first_edge(work, z, s);
-    let end = edge_words::first_edge(work, z, s + 1);
-    while j < end {
-        try_edge(work, wide, z, barred, s, g, j);
-        j += 1;
+    let graph = space.graph();
+    let first = graph.first_edge(s);
+    let end = graph.first_edge(s + 1);
+    for j in first..end {
+        try_edge(space, barred, s, g, j);
     }
 }
 
 // Expands s for heuristic i: s is marked, and its edges that are not barred are tried in plan order.
-pub fn expand(work: &mut [u32], wide: &mut [u64], z: Size, barred: u32, i: u32, s: u32)
-    requires { Ready z (mem work.old wide.old) × (s < z.vertices) }
-    ensures { Becomes z (expand (permitted barred (graph_of z work.old)) i s (vertices_of z (mem work.old wide.old))) (mem work.old wide.old) (mem work.new wide.new) }
+pub fn expand(space: &mut Workspace<'_>, barred: u32, i: u32, s: u32)
+    requires { s < space.old.size.vertices }
+    ensures { Stores (expand (permitted barred (space_edges space.old)) i s (space_vertices space.old)) space.old space.new }
 {
-    let x = vertex_words::load(work, wide, z, s);
-    let g = x.g;
-    vertex_words::store(work, wide, z, s, vertices::marked(x, i));
-    relax_all(work, wide, z, barred, s, g);
+    let x = space.vertex(s);
+    space.set_vertex(s, vertices::marked(x, i));
+    relax_all(space, barred, s, x.g);
 }

@@ -1,17 +1,28 @@
 // The least key of a heuristic over the vertices of the work memories.
-ghost use Rattle.std.specs.Prelude.{◌≡◌, true, ◌<◌, ◌≤◌, length, get_or};
-ghost use Rattle.search.specs.declared.Best.TheVariants.{Nobody};
+ghost use Rattle.std.specs.Prelude.{◌≡◌, true, ◌<◌, ◌≤◌, length, get_or, None};
 ghost use Rattle.search.specs.Job.{at};
 ghost use Rattle.search.specs.Turn.{key, offered, better, least};
 ghost use Rattle.search.specs.Bounds.{max_factor, max_key, Priced, Within};
 ghost use Rattle.turn.specs.Lead.{best_of};
-ghost use Rattle.workspace.specs.Layout.{mem, Room, vertices_of};
+ghost use Rattle.workspace.specs.Space.{vertices_seen};
 
 use crate::vertices;
-use search::Best;
-use workspace::{Size, vertex_words};
+use workspace::Vertices;
+
+// A scan of the vertices for heuristic i: its numbers for them, and the factor of its keys.
+#[derive(Clone, Copy)]
+pub struct Scan<'a> {
+    pub vertices: Vertices<'a>,
+    pub i: u32,
+    pub numbers: &'a [u32],
+    pub w1: u32,
+    ghost numbered: { vertices.size.vertices ≤ length numbers.now },
+    ghost bounded: { w1 ≤ max_factor },
+    ghost priced: { Priced (vertices_seen vertices) },
+}
 
 // The best of a scan so far, in two numbers: a key above all keys stands for nobody.
+// An Option was tried: a turn over 4,096 vertices takes a sixth longer.
 #[derive(Clone, Copy)]
 struct Lead {
     key: u64,
@@ -22,7 +33,7 @@ impl Lead {
     const NO_KEY: u64 = 18446744073709551615;
 
     fn none() -> Lead
-        ensures { best_of result ≡ Nobody }
+        ensures { best_of result ≡ None }
     {
         Lead {
             key: Lead::NO_KEY,
@@ -41,53 +52,41 @@ impl Lead {
         self
     }
 
-    fn best(self) -> Best
+    fn best(self) -> Option<(u64, u32)>
         ensures { result ≡ best_of self }
     {
         let key = self.key;
         if key == Lead::NO_KEY {
-            return Best::Nobody;
+            return None;
         }
-        Best::Found(key, self.vertex)
+        Some((key, self.vertex))
     }
 }
 
-// The better of the best so far and vertex s, whose number is read only where it is open.
-fn consider(
-    work: &[u32],
-    wide: &[u64],
-    numbers: &[u32],
-    z: Size,
-    i: u32,
-    w1: u32,
-    s: u32,
-    lead: Lead,
-) -> Lead
-    requires { Room z (mem work.now wide.now) × (s < z.vertices) × (z.vertices ≤ length numbers.now) × (w1 ≤ max_factor) × Within z.vertices (best_of lead) × Priced (vertices_of z (mem work.now wide.now)) }
-    ensures { (best_of result ≡ better (offered i (get_or numbers.now s 0) (at (vertices_of z (mem work.now wide.now)) s)) (key w1 (get_or numbers.now s 0) (at (vertices_of z (mem work.now wide.now)) s)) s (best_of lead)) × Within z.vertices (best_of result) }
-{
-    let x = vertex_words::load(work, wide, z, s);
-    if x.opened {
-        let h = numbers[s as usize];
-        if vertices::offered(x, i, h) {
-            return lead.better(vertices::key(x, w1, h), s);
+impl<'a> Scan<'a> {
+    // The better of the best so far and vertex s, whose number is read only where it is open.
+    fn consider(self, s: u32, lead: Lead) -> Lead
+        requires { (s < self.vertices.size.vertices) × Within self.vertices.size.vertices (best_of lead) }
+        ensures { (best_of result ≡ better (offered self.entry.i (get_or self.entry.numbers.now s 0) (at (vertices_seen self.entry.vertices) s)) (key self.entry.w1 (get_or self.entry.numbers.now s 0) (at (vertices_seen self.entry.vertices) s)) s (best_of lead)) × Within self.entry.vertices.size.vertices (best_of result) }
+    {
+        let x = self.vertices.vertex(s);
+        if x.opened {
+            let h = self.numbers[s as usize];
+            if x.is_offered(self.i, h) {
+                return lead.better(vertices::key(x, self.w1, h), s);
+            }
         }
-        return lead;
+        lead
     }
-    lead
-}
 
-// The best vertex of heuristic i, whose numbers are given.
-pub fn least(work: &[u32], wide: &[u64], numbers: &[u32], z: Size, i: u32, w1: u32) -> Best
-    requires { Room z (mem work.now wide.now) × (z.vertices ≤ length numbers.now) × (w1 ≤ max_factor) × Priced (vertices_of z (mem work.now wide.now)) }
-    ensures { (result ≡ least i w1 numbers.now (vertices_of z (mem work.now wide.now))) × Within z.vertices result }
-{
-    let vertices = z.vertices;
-    let mut lead = Lead::none();
-    let mut s: u32 = 0;
-    while s < vertices {
-        lead = consider(work, wide, numbers, z, i, w1, s, lead);
-        s += 1;
+    // The best vertex.
+    pub fn least(self) -> Option<(u64, u32)>
+        ensures { (result ≡ least self.entry.i self.entry.w1 self.entry.numbers.now (vertices_seen self.entry.vertices)) × Within self.entry.vertices.size.vertices result }
+    {
+        let mut lead = Lead::none();
+        for s in 0..self.vertices.size.vertices {
+            lead = self.consider(s, lead);
+        }
+        lead.best()
     }
-    lead.best()
 }

@@ -5,7 +5,7 @@ use Prim.Native.Nat.{ℕ, zero, suc, ◌+◌, ◌*◌, ◌≤◌, ◌<◌}
 use native.Mathlib.Nat.{not-suc-le-zero}
 use native.Mathlib.Omega.{arith}
 use borrow.Author.Tests.{lt-ltb, le-ltb}
-use lib.ListN.{length, get_or, length-append, length-map}
+use lib.ListN.{length, get_or, set, length-append, length-map}
 use Rattle.graph.specs.declared.Edge.{Edge}
 use Rattle.graph.specs.Lists.{none, head_of, cost_of, class_of, edge_rows, edges_fault}
 use Rattle.graph.proofs.Rows.{Passes}
@@ -13,7 +13,8 @@ use Rattle.graph.proofs.OneEdge.{passes_from, passes_within}
 use Rattle.graph.proofs.Plan.{edge_clear}
 use Rattle.search.specs.Outcome.{edges_below, first_edges}
 use Rattle.search.proofs.Tools.{le_cases}
-use Rattle.workspace.specs.Layout.{graph_words}
+use Rattle.graph.specs.declared.Size.{Size}
+use Rattle.workspace.specs.Layout.{edge_at, edge_put, graph_words}
 use Rattle.workspace.specs.Holds.{Rising, end, then}
 
 -- edges that pass the writer's rows are such
@@ -102,6 +103,34 @@ length_graph v es =
     )
 
 -- ---- in columns
+
+-- the words of edge j, found from that of its head on
+module _ (z : Size) (w : List ℕ) (j : ℕ) where
+  cost_place : z.vertices + 1 + j + z.edges ≡ z.vertices + 1 + z.edges + j
+  cost_place = omega arith
+
+  class_place : z.vertices + 1 + j + 2 * z.edges ≡ z.vertices + 1 + 2 * z.edges + j
+  class_place = omega arith
+
+  pub edge_read :
+      (t : ℕ) →
+      ◌≡◌ {A = Edge}
+      (record {
+        tail = t;
+        head = get_or w (z.vertices + 1 + j) 0;
+        cost = get_or w (z.vertices + 1 + j + z.edges) 0;
+        class = get_or w (z.vertices + 1 + j + 2 * z.edges) 0;
+      })
+      (edge_at z w t j)
+  unfolding edge_at
+  edge_read t = rw (cost_place, class_place)
+
+  pub edge_laid :
+      (e : Edge) →
+      set (set (set w (z.vertices + 1 + j) e.head) (z.vertices + 1 + j + z.edges) e.cost) (z.vertices + 1 + j + 2 * z.edges) e.class
+      ≡ edge_put z j e w
+  unfolding edge_put
+  edge_laid e = rw (cost_place, class_place)
 
 -- first edges, heads, costs, classes, and the words behind them
 abbrev pub columns : List ℕ → List ℕ → List ℕ → List ℕ → List ℕ → List ℕ

@@ -13,7 +13,7 @@ use Rattle.graph.specs.OneForm.{EdgeWithin}
 use Rattle.graph.proofs.Plan.{whole}
 use Rattle.search.specs.declared.Vertex.{Vertex}
 use Rattle.search.specs.Outcome.{edges_below, first_edges, vertex_words, work_words}
-use Rattle.workspace.specs.declared.Size.{Size}
+use Rattle.graph.specs.declared.Size.{Size}
 use Rattle.workspace.specs.Layout.{base, Words, mem, WorkRoom, Room, vertices_of, written, first_of, edge_at, edges_run, edges_at, edges_under, graph_of, graph_words, Loaded, Whole, Ready, Becomes}
 use Rattle.workspace.specs.Holds.{Rising, then, Holds}
 use Rattle.workspace.proofs.Firsts.{passes_rising, below_none, below_all, below_rise, below_most, tail_at, length_firsts, length_graph, graph_columns}
@@ -203,6 +203,17 @@ module _ (z : Size) (es : List Edge) (old : Words) (le : length es ≡ z.edges) 
         work = omega (arith, length-append g (drop (length g) old.work), length-drop (length g) old.work, graph_length, room.work);
         wide = room.wide;
       }
+
+-- the graph alone, loaded over the words
+pub whole_loaded : (z : Size) (es : List Edge) (old : Words) → Room z old → length es ≡ z.edges → Rising z.vertices 0 es → Whole z (with_graph z es old).work
+unfolding over
+whole_loaded z es old room le rise =
+    let r : List ℕ = drop (length (graph_words z.vertices es)) old.work in
+    record {
+      graph = graph_loaded z es r le rise (graph_room z es old le room).work;
+      origin = origin_is z es r le rise;
+      end = end_is z es r le rise;
+    }
 
 -- a graph loaded over the words, and vertices laid
 pub holds_laid :

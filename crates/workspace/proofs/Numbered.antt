@@ -1,16 +1,19 @@
 -- The edges of a graph in work memory by their numbers: how many are under each tail, and where edge j is.
 use Prim.Native.Nat.{ℕ, zero, suc, ◌+◌, ◌-◌, ◌≤◌, ◌<◌}
 use native.Mathlib.Nat.{zero-add, add-zero}
-use native.Mathlib.Numerals.{add-one}
 use native.Mathlib.Omega.{arith}
 use mathlib.Core.Path.{◌≡◌, refl, sym, ap, ◌∙◌}
 use mathlib.Core.List.{List, [], ◌∷◌, ◌++◌, append_assoc, append-nil}
-use lib.ListN.{length, get_or, length-append, get_or-append}
-use lib.Seq.{get_or-append-add}
+use lib.ListN.{length, get_or, drop, length-append, length-drop, get_or-append}
+use lib.Seq.{get_or-append-add, get_or-take, get_or-drop, length-take-le}
+use Rattle.std.proofs.Common.{true, false, slice_range, leb, leb-true, leb-false}
+use Rattle.std.specs.List.Sorted.{IsNonDecreasingBy, IsPartitionPoint}
+use Rattle.std.proofs.lemmas.Grind.{get_or_default_zero}
 use Rattle.graph.specs.declared.Edge.{Edge}
+use Rattle.graph.specs.Limits.{max_class}
 use Rattle.search.proofs.Tools.{le_cases}
-use Rattle.workspace.specs.declared.Size.{Size}
-use Rattle.workspace.specs.Layout.{first_of, edge_at, edges_run, edges_at, edges_under, graph_of, Whole}
+use Rattle.graph.specs.declared.Size.{Size}
+use Rattle.workspace.specs.Layout.{base, first_of, edge_at, edges_run, edges_at, edges_under, graph_of, Loaded, Whole}
 
 module _ (z : Size) (w : List ℕ) where
   -- ---- the edges of a tail
@@ -88,36 +91,64 @@ module _ (z : Size) (w : List ℕ) where
           ∙ get_or-append (edges_at z w t) _ d (j - first_of w t) (omega (arith, length_at t, from, to))
           ∙ in_tail)
 
--- ---- the tail of edge j, sought from vertex t on: `next` is the first edge of the vertex after it
+-- ---- first edge numbers and edges are within the graph
 
-pub record Sought (z : Size) (w : List ℕ) (j t next : ℕ) : Type 0 where
-  pub inside : t < z.vertices
-  pub from : first_of w t ≤ j
-  pub next_is : next ≡ first_of w (suc t)
+module _ (z : Size) (w : List ℕ) (r : Loaded z w) where
+  pub first_within : 0 < z.vertices → (t : ℕ) → t ≤ z.vertices → first_of w t ≤ z.edges
+  first_within h zero l = omega (arith, r.rise 0 h, r.ends 0 h)
+  first_within h (suc t) l = r.ends t (omega arith)
 
-module _ (z : Size) (w : List ℕ) (r : Whole z w) (j : ℕ) (h : j < z.edges) where
-  -- the last vertex is followed by no edge
-  before_end : (t : ℕ) → t ≤ z.vertices → first_of w t ≤ j → t < z.vertices
-  before_end t l from =
-      le_cases z.vertices t
-      (λ g.
-      let e : t ≡ z.vertices = omega (arith, l, g) in absurd (omega (arith, from, h, r.end, ap (first_of w) e)))
-      (λ g. g)
+  pub edge_within : (t j : ℕ) → j < z.edges → (e : Edge) → e ≡ edge_at z w t j → (e.head < z.vertices) × (e.class ≤ max_class)
+  edge_within t j h e q = rw q (r.heads t j h, r.classes t j h)
 
-  pub some_vertex : 0 < z.vertices
-  some_vertex = before_end 0 (omega arith) (omega (arith, r.origin))
+-- ---- the tail of edge j: before it lie the tails whose edges end before edge j, or with it
 
-  pub sought_first : (next : ℕ) → next ≡ first_of w 1 → Sought z w j 0 next
-  sought_first next e = record { inside = some_vertex; from = omega (arith, r.origin); next_is = e }
+module _ (z : Size) (w : List ℕ) (r : Whole z w) where
+  rise_by : (n t : ℕ) → t + n ≤ z.vertices → first_of w t ≤ first_of w (t + n)
+  rise_by zero t h = rw add-zero (omega arith)
+  rise_by (suc n) t h =
+      let e : t + suc n ≡ suc (t + n) = omega arith in
+      rw e (omega (arith, rise_by n t (omega arith), r.graph.rise (t + n) (omega arith)))
 
-  module _ (t next : ℕ) (s : Sought z w j t next) (l : next ≤ j) where
-    pub sought_inside : suc t < z.vertices
-    sought_inside = before_end (suc t) s.inside (omega (arith, l, s.next_is))
+  -- where the edges of each tail end
+  abbrev ends : List ℕ
+  ends = slice_range w 1 (z.vertices + 1)
 
-    pub sought_next : (next' : ℕ) → next' ≡ first_of w (t + 1 + 1) → Sought z w j (t + 1) next'
-    sought_next next' e =
-        record {
-          inside = rw (add-one t) sought_inside;
-          from = rw (add-one t) (omega (arith, l, s.next_is));
-          next_is = e ∙ ap (first_of w) (add-one (t + 1));
-        }
+  length_ends : length ends ≡ z.vertices
+  unfolding base
+  length_ends = length-take-le (z.vertices + 1 - 1) (drop 1 w) (omega (arith, length-drop 1 w, r.graph.room)) ∙ omega arith
+
+  end_of : (t d : ℕ) → t < z.vertices → get_or ends t d ≡ first_of w (suc t)
+  unfolding first_of base
+  end_of t d h =
+      let e : 1 + t ≡ suc t = omega arith in
+      get_or-take (z.vertices + 1 - 1) (drop 1 w) t d (omega arith)
+      ∙ get_or-drop 1 w t d
+      ∙ ap (λ (i : ℕ). get_or w i d) e
+      ∙ get_or_default_zero w (suc t) d (omega (arith, r.graph.room))
+
+  pub ends_rise : IsNonDecreasingBy (λ (n : ℕ). n) ends
+  ends_rise i j d h k =
+      let l : j < z.vertices = omega (arith, k, length_ends) in
+      let e : suc i + (j - i) ≡ suc j = omega (arith, h) in
+      rw (end_of i d (omega (arith, h, l)), end_of j d l, ← e) (rise_by (j - i) (suc i) (omega (arith, h, l)))
+
+  module _ (j : ℕ) (h : j < z.edges) (t : ℕ) (p : IsPartitionPoint (λ (n : ℕ). leb n j ≡ true) (λ (n : ℕ). leb n j ≡ false) ends t) where
+    before : (s : ℕ) → s < z.vertices → s < t → first_of w (suc s) ≤ j
+    before s l k = leb-true _ _ (rw (← end_of s 0 l) (p.0 s 0 (omega arith) k))
+
+    from_end : (s : ℕ) → s ≤ z.vertices → s ≤ t → first_of w s ≤ j
+    from_end zero l k = omega (arith, r.origin)
+    from_end (suc s) l k = before s (omega arith) (omega arith)
+
+    pub tail_inside : t < z.vertices
+    tail_inside =
+        le_cases z.vertices t
+        (λ g. absurd (omega (arith, from_end z.vertices (omega arith) g, h, r.end)))
+        (λ g. g)
+
+    pub tail_from : first_of w t ≤ j
+    tail_from = from_end t (omega (arith, tail_inside)) (omega arith)
+
+    pub tail_to : j < first_of w (suc t)
+    tail_to = leb-false _ _ (rw (← end_of t 0 tail_inside) (p.1 t 0 (omega arith) (omega (arith, tail_inside, length_ends))))

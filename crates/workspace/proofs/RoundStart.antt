@@ -9,9 +9,12 @@ use lib.Seq.{take-suc-set, drop-set-lt, drop-cons, take_all, append_snoc}
 use Rattle.search.specs.declared.Vertex.{Vertex}
 use Rattle.search.specs.Job.{fresh, origin, at, at_first}
 use Rattle.search.specs.Rounds.{reopened}
-use Rattle.workspace.specs.declared.Size.{Size}
-use Rattle.workspace.specs.Layout.{Words, Room, vertices_of, written, with_vertex, Ready, Becomes}
-use Rattle.workspace.proofs.Written.{written_set, written_more, length_vertices_of, length_stored, unchanged, then_vertices, then_kept}
+use Rattle.graph.specs.declared.Size.{Size}
+use Rattle.workspace.specs.declared.Workspace.{Workspace}
+use Rattle.workspace.specs.Layout.{Words, Room, written, with_vertex, Becomes}
+use Rattle.workspace.specs.Space.{space_words, space_vertices, Stores}
+use Rattle.workspace.proofs.Written.{written_set, written_more, length_stored}
+use Rattle.workspace.proofs.Spaces.{length_vertices_in, stores_none, stores_vertices, kept_more}
 
 -- ---- the loop that makes the vertices fresh
 
@@ -44,35 +47,26 @@ module _ (st₀ st : List Vertex) (p : ℕ) where
   opened_all : length st ≤ p → Opened st p → st ≡ map reopened st₀
   opened_all h e = rw (take_all p st h, drop_of_length-le st h, append-nil) at e
 
--- the first p vertices are open again, the rest of memory unchanged
-pub record Reopening (z : Size) (m₀ m : Words) (p : ℕ) : Type 0 where
-  pub within : p ≤ z.vertices
-  pub kept : Becomes z (vertices_of z m) m₀ m
-  pub opened : Opened (vertices_of z m₀) (vertices_of z m) p (vertices_of z m) p
+-- the first p vertices are open again, nothing else changed: s₀ before the loop, s at its head
+pub record Reopening (s₀ s : Workspace) (p : ℕ) : Type 0 where
+  pub kept : Stores (space_vertices s) s₀ s
+  pub opened : Opened (space_vertices s₀) (space_vertices s) p (space_vertices s) p
 
-module _ (z : Size) (m₀ : Words) (r : Ready z m₀) where
-  pub reopening_none : Reopening z m₀ m₀ 0
-  reopening_none = record { within = omega arith; kept = unchanged z m₀ r; opened = refl }
+pub reopening_none : (s : Workspace) → Reopening s s 0
+reopening_none s = record { kept = stores_none s; opened = refl }
 
-  module _ (m : Words) (p : ℕ) (k : Reopening z m₀ m p) where
-    pub reopening_more :
-        (m' : Words) → p < z.vertices → Becomes z (set (vertices_of z m) p (reopened (at (vertices_of z m) p))) m m' →
-        Reopening z m₀ m' (p + 1)
-    reopening_more m' h f =
-        let x : List Vertex = set (vertices_of z m) p (reopened (at (vertices_of z m) p)) in
-        let e : length x ≡ z.vertices = length_stored z m p (reopened (at (vertices_of z m) p)) in
-        record {
-          within = omega arith;
-          kept = then_kept z m₀ m r k.kept x m' e f;
-          opened =
-              rw (then_vertices z m₀ m r k.kept x m' e f)
-              (opened_more (vertices_of z m₀) (vertices_of z m) p (omega (arith, length_vertices_of z m)) k.opened);
-        }
+module _ (s₀ s : Workspace) (p : ℕ) (k : Reopening s₀ s p) where
+  sized : length (space_vertices s) ≡ s₀.size.vertices
+  sized = length_vertices_in s ∙ ap (λ (z : Size). z.vertices) k.kept.lent.size_is
 
-    pub reopening_all : z.vertices ≤ p → Becomes z (map reopened (vertices_of z m₀)) m₀ m
-    reopening_all h =
-        record {
-          words =
-              k.kept.words
-              ∙ ap (λ x. written z x m₀) (opened_all (vertices_of z m₀) (vertices_of z m) p (omega (arith, length_vertices_of z m)) k.opened);
-        }
+  pub reopening_more :
+      (s' : Workspace) → p < s₀.size.vertices → Stores (set (space_vertices s) p (reopened (at (space_vertices s) p))) s s' → Reopening s₀ s' (p + 1)
+  reopening_more s' h f =
+      let e = length_stored s.size (space_words s) p (reopened (at (space_vertices s) p)) in
+      record {
+        kept = kept_more s₀ s s' k.kept _ e f;
+        opened = rw (stores_vertices s s' _ e f) (opened_more (space_vertices s₀) (space_vertices s) p (omega (arith, sized)) k.opened);
+      }
+
+  pub reopening_all : s₀.size.vertices ≤ p → Stores (map reopened (space_vertices s₀)) s₀ s
+  reopening_all h = rw (opened_all (space_vertices s₀) (space_vertices s) p (omega (arith, sized)) k.opened) at k.kept

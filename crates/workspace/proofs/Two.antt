@@ -1,5 +1,6 @@
 -- Laws of the two numbers of each vertex in either memory: vertices laid over a list, one of them stored; and read back from both.
 use mathlib.Core.Path.{◌≡◌, refl, sym, ap, ◌∙◌}
+use Rattle.std.specs.Int.{from_bool}
 use mathlib.Core.Bool.{Bool, true, false, cond}
 use mathlib.Core.List.{List, [], ◌∷◌, ◌++◌}
 use Prim.Native.Nat.{ℕ, zero, suc, ◌+◌, ◌*◌, ◌≤◌, ◌<◌}
@@ -144,3 +145,17 @@ at_vertices (suc n) w u (suc p) h =
     at_vertices n (drop 2 w) (drop 2 u) p (le_of_suc-le-suc h)
     ∙ vertex_at_drop 2 w u (2 * p)
     ∙ ap (λ (k : ℕ). vertex_at w k u k) e
+
+-- ---- marks
+
+-- a mark as a number
+pub mark_is : (k : ℕ) (b : Bool) → k * from_bool b ≡ cond b k 0
+mark_is k true = omega arith
+mark_is k false = omega arith
+
+pub marks_are :
+    (x : Vertex) (a b c d : ℕ) → a ≡ from_bool x.inad → b ≡ from_bool x.anchor → c ≡ from_bool x.opened → d ≡ from_bool x.incons →
+    a + 2 * b + 4 * c + 8 * d ≡ mark_word x
+unfolding mark_word
+marks_are x a b c d e f g h =
+    omega (arith, e, f, g, h, mark_is 1 x.inad, mark_is 2 x.anchor, mark_is 4 x.opened, mark_is 8 x.incons)

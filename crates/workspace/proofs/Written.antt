@@ -12,7 +12,7 @@ use Rattle.search.specs.declared.Vertex.{Vertex}
 use Rattle.search.specs.Job.{at, fresh}
 use Rattle.search.specs.Outcome.{mark_word, vertex_words}
 use Rattle.search.proofs.Tools.{le_cases}
-use Rattle.workspace.specs.declared.Size.{Size}
+use Rattle.graph.specs.declared.Size.{Size}
 use Rattle.workspace.specs.Layout.{base, Words, mem, Room, vertex_at, vertices_of, written, with_two, with_vertex, pred_of, first_of, edge_at, edges_run, edges_at, edges_under, graph_of, Loaded, Ready, Becomes}
 use Rattle.workspace.proofs.Two.{length_vertices, at_vertices, over_none, length_over, vertices_over, over_over, over_set, over_more}
 
@@ -134,31 +134,8 @@ module _ (z : Size) (m₀ m : Words) (r : Ready z m₀) (k : Becomes z (vertices
   work_is : m.work ≡ (written z (vertices_of z m) m₀).work
   work_is = ap (λ (x : Words). x.work) k.words
 
-  pub ready_kept : Ready z m
-  ready_kept = rw k.words (ready_loaded z m₀ r.room r.graph (vertices_of z m) (length_vertices_of z m))
-
-  pub length_kept : length m.work ≡ length m₀.work
-  length_kept = ap length work_is ∙ length_written z m₀ r.room (vertices_of z m) (length_vertices_of z m)
-
   pub wide_kept : length m.wide ≡ length m₀.wide
   wide_kept = ap (λ (x : Words). length x.wide) k.words ∙ wide_written z m₀ r.room (vertices_of z m) (length_vertices_of z m)
-
-  pub edge_kept : (t j : ℕ) → j < z.edges → edge_at z m.work t j ≡ edge_at z m₀.work t j
-  edge_kept t j h =
-      ap (λ (l : List ℕ). edge_at z l t j) work_is ∙ edge_written z m₀ r.room (vertices_of z m) (length_vertices_of z m) t j h
-
-  module _ (x : List Vertex) (m' : Words) (e : length x ≡ z.vertices) (f : Becomes z x m m') where
-    then_written : m' ≡ written z x m₀
-    then_written =
-        f.words
-        ∙ ap (written z x) k.words
-        ∙ written_written z m₀ r.room (vertices_of z m) (length_vertices_of z m) x (omega (arith, length_vertices_of z m))
-
-    pub then_vertices : vertices_of z m' ≡ x
-    then_vertices = ap (vertices_of z) then_written ∙ vertices_of_written z m₀ r.room x e
-
-    pub then_kept : Becomes z (vertices_of z m') m₀ m'
-    then_kept = record { words = rw then_vertices then_written }
 
 -- ---- a store is one vertex of the list changed
 

@@ -5,7 +5,7 @@ use Rattle.graph.specs.Lists.{over}
 use Rattle.graph.specs.OneForm.{EdgeWithin}
 use Rattle.search.specs.declared.Vertex.{Vertex}
 use Rattle.search.specs.Outcome.{work_words, wide_words}
-use Rattle.workspace.specs.declared.Size.{Size}
+use Rattle.graph.specs.declared.Size.{Size}
 use Rattle.workspace.specs.Layout.{Words, Room}
 
 -- edges within the limits of v vertices, whose tails rise from p on

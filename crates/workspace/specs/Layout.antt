@@ -7,7 +7,7 @@ use Rattle.graph.specs.Lists.{head_of, cost_of, class_of, over}
 use Rattle.search.specs.declared.Vertex.{Vertex}
 use Rattle.search.specs.Job.{no_pred}
 use Rattle.search.specs.Outcome.{first_edges, mark_word, vertex_words, wide_words}
-use Rattle.workspace.specs.declared.Size.{Size}
+use Rattle.graph.specs.declared.Size.{Size}
 
 -- the first word of the vertices in work memory
 unfoldable pub base : Size → ℕ

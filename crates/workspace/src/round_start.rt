@@ -1,10 +1,12 @@
 // The vertices in memory at first, and at a round's beginning.
-ghost use Rattle.std.specs.Prelude.{◌≡◌, ◌<◌, map, set};
-ghost use Rattle.search.specs.Job.{origin, at, at_first};
+ghost use Rattle.std.specs.Prelude.{◌≡◌, ◌<◌, ◌≤◌, ◌*◌, length, map};
+ghost use Rattle.search.specs.Job.{origin, at_first};
 ghost use Rattle.search.specs.Rounds.{reopened};
-ghost use Rattle.workspace.specs.Layout.{mem, Room, vertices_of, Ready, Becomes};
+ghost use Rattle.workspace.specs.Layout.{mem, Room, Loaded, Becomes};
+ghost use Rattle.workspace.specs.Space.{space_vertices, Stores, Begins};
 
-use crate::{Size, vertex_words, words};
+use crate::{Workspace, words};
+use graph::Size;
 use search::Vertex;
 
 // The start at first: its g is 0, and it is open.
@@ -13,12 +15,8 @@ fn origin() -> Vertex
 {
     Vertex {
         g: 0,
-        v: Vertex::UNREACHED,
-        pred: Vertex::NO_PRED,
-        inad: false,
-        anchor: false,
         opened: true,
-        incons: false,
+        ..Vertex::fresh()
     }
 }
 
@@ -27,13 +25,11 @@ fn reopened(x: Vertex) -> Vertex
     ensures { result ≡ reopened x }
 {
     Vertex {
-        g: x.g,
-        v: x.v,
-        pred: x.pred,
         inad: false,
         anchor: false,
         opened: x.incons | x.opened,
         incons: false,
+        ..x
     }
 }
 
@@ -42,33 +38,29 @@ pub fn at_first(work: &mut [u32], wide: &mut [u64], z: Size, start: u32)
     requires { Room z (mem work.old wide.old) × (start < z.vertices) }
     ensures { Becomes z (at_first z.vertices start) (mem work.old wide.old) (mem work.new wide.new) }
 {
-    let vertices = z.vertices;
-    let mut p: u32 = 0;
-    while p < vertices {
+    for p in 0..z.vertices {
         words::put(work, wide, z, p, Vertex::fresh());
-        p += 1;
     }
     words::put(work, wide, z, start, origin());
 }
 
-// Vertex p at a round's beginning.
-fn reopen_one(work: &mut [u32], wide: &mut [u64], z: Size, p: u32)
-    requires { Ready z (mem work.old wide.old) × (p < z.vertices) }
-    ensures { Becomes z (set (vertices_of z (mem work.old wide.old)) p (reopened (at (vertices_of z (mem work.old wide.old)) p))) (mem work.old wide.old) (mem work.new wide.new) }
-{
-    let x = vertex_words::load(work, wide, z, p);
-    vertex_words::store(work, wide, z, p, reopened(x));
-}
+impl<'a> Workspace<'a> {
+    // Lent memory, whose work memory holds a graph, with the vertices at first.
+    pub fn begin(work: &'a mut [u32], wide: &'a mut [u64], size: Size, start: u32) -> Workspace<'a>
+        requires { Loaded size work.old × (2 * size.vertices ≤ length wide.old) × (start < size.vertices) }
+        ensures { Begins size start work.entry wide.entry result }
+    {
+        at_first(work, wide, size, start);
+        Workspace { work, wide, size }
+    }
 
-// All vertices at a round's beginning.
-pub fn reopen(work: &mut [u32], wide: &mut [u64], z: Size)
-    requires { Ready z (mem work.old wide.old) }
-    ensures { Becomes z (map reopened (vertices_of z (mem work.old wide.old))) (mem work.old wide.old) (mem work.new wide.new) }
-{
-    let vertices = z.vertices;
-    let mut s: u32 = 0;
-    while s < vertices {
-        reopen_one(work, wide, z, s);
-        s += 1;
+    // All vertices at a round's beginning.
+    pub fn reopen(&mut self)
+        ensures { Stores (map reopened (space_vertices self.old)) self.old self.new }
+    {
+        for p in 0..self.size.vertices {
+            let x = self.vertex(p);
+            self.set_vertex(p, reopened(x));
+        }
     }
 }

@@ -1,30 +1,33 @@
-// Vertices loaded from memory and stored in it; predecessors read alone.
+// Vertices read from memory and stored in it; predecessors read alone.
 ghost use Rattle.std.specs.Prelude.{◌≡◌, ◌<◌, set};
 ghost use Rattle.search.specs.Job.{at};
-ghost use Rattle.workspace.specs.Layout.{mem, WorkRoom, Room, vertices_of, pred_of, Ready, Becomes};
+ghost use Rattle.workspace.specs.Layout.{WorkRoom, pred_of};
+ghost use Rattle.workspace.specs.Space.{vertices_seen, space_vertices, Stores};
 
-use crate::{Size, words};
+use crate::{Graph, Size, Vertices, Workspace, words};
 use search::Vertex;
 
-// Vertex p, as its two words and two numbers say.
-pub fn load(work: &[u32], wide: &[u64], z: Size, p: u32) -> Vertex
-    requires { Room z (mem work.now wide.now) × (p < z.vertices) }
-    ensures { result ≡ at (vertices_of z (mem work.now wide.now)) p }
-{
-    let i = 2 * (p as usize);
-    let o = words::base(z) + i;
-    let pred = work[o];
-    let marks = work[o + 1];
-    let g = wide[i];
-    let v = wide[i + 1];
-    Vertex {
-        g,
-        v,
-        pred,
-        inad: words::has_mark(1, marks),
-        anchor: words::has_mark(2, marks),
-        opened: words::has_mark(4, marks),
-        incons: words::has_mark(8, marks),
+impl<'a> Vertices<'a> {
+    // Vertex p, as its two words and two numbers say.
+    pub fn vertex(self, p: u32) -> Vertex
+        requires { p < self.size.vertices }
+        ensures { result ≡ at (vertices_seen self.entry) p }
+    {
+        let i = 2 * p as usize;
+        let o = words::base(self.size) + i;
+        let pred = self.work[o];
+        let marks = self.work[o + 1];
+        let g = self.wide[i];
+        let v = self.wide[i + 1];
+        Vertex {
+            g,
+            v,
+            pred,
+            inad: words::has_mark(1, marks),
+            anchor: words::has_mark(2, marks),
+            opened: words::has_mark(4, marks),
+            incons: words::has_mark(8, marks),
+        }
     }
 }
 
@@ -33,17 +36,48 @@ pub fn pred(work: &[u32], z: Size, x: u32) -> u32
     requires { WorkRoom z work.now }
     ensures { result ≡ pred_of z work.now x }
 {
-    let vertices = z.vertices;
-    if x < vertices {
-        return work[words::base(z) + 2 * (x as usize)];
+    if x < z.vertices {
+        return work[words::base(z) + 2 * x as usize];
     }
     Vertex::NO_PRED
 }
 
-// Vertex p becomes x.
-pub fn store(work: &mut [u32], wide: &mut [u64], z: Size, p: u32, x: Vertex)
-    requires { Ready z (mem work.old wide.old) × (p < z.vertices) }
-    ensures { Becomes z (set (vertices_of z (mem work.old wide.old)) p x) (mem work.old wide.old) (mem work.new wide.new) }
-{
-    words::put(work, wide, z, p, x);
+// The predecessor beside a graph. The function above asks only for room, and docs/PROMISES.md names it: it stays.
+impl<'a> Graph<'a> {
+    pub fn pred(self, x: u32) -> u32
+        ensures { result ≡ pred_of self.entry.size self.entry.words.now x }
+    {
+        pred(self.words, self.size, x)
+    }
+}
+
+impl<'a> Workspace<'a> {
+    // The vertices that it holds.
+    pub fn vertices(&self) -> Vertices<'_>
+        ensures work { result.work.now ≡ self.now.work.now }
+        ensures wide { result.wide.now ≡ self.now.wide.now }
+        ensures size { result.size ≡ self.now.size }
+    {
+        Vertices {
+            work: self.work,
+            wide: self.wide,
+            size: self.size,
+        }
+    }
+
+    // Vertex p.
+    pub fn vertex(&self, p: u32) -> Vertex
+        requires { p < self.now.size.vertices }
+        ensures { result ≡ at (space_vertices self.now) p }
+    {
+        self.vertices().vertex(p)
+    }
+
+    // Vertex p becomes x.
+    pub fn set_vertex(&mut self, p: u32, x: Vertex)
+        requires { p < self.old.size.vertices }
+        ensures { Stores (set (space_vertices self.old) p x) self.old self.new }
+    {
+        words::put(self.work, self.wide, self.size, p, x);
+    }
 }

@@ -1,15 +1,11 @@
 -- `decide` meets its contract: the plan, then the rows.
-use mathlib.Core.Path.{sym, ◌∙◌}
+use Rattle.std.proofs.Common.{sym, ◌∙◌, arith}
 use Rattle.admission.proofs.Verdicts.{header_refused, edges_refused}
 use Rattle.admission.proofs.decide.Goals as goal
 
-pub call_verdict-requires : goal.call_verdict-requires
-call_verdict-requires c =
-    record { bytes_value = sym c.header.ensures ∙ c.in-Counts.is; at_value = sym c.read_edges.ensures ∙ c.in-Whole.is }
+pub returns-in_err-size : goal.returns-in_err-size
+returns-in_err-size c = header_refused _ _ _ (sym c.header.ensures ∙ c.in_err-size.was) _ (grind arith)
 
-pub returns-in-Refused : goal.returns-in-Refused
-returns-in-Refused c = header_refused _ _ _ _ _ _ _ _ (sym c.header.ensures ∙ c.in-Refused.is)
-
-pub returns-in-Refused-read_edges : goal.returns-in-Refused-read_edges
-returns-in-Refused-read_edges c =
-    edges_refused _ _ _ _ _ _ _ _ _ _ _ (sym c.header.ensures ∙ c.in-Counts.is) (sym c.read_edges.ensures ∙ c.in-Refused-read_edges.is)
+pub returns-in_err-broken : goal.returns-in_err-broken
+returns-in_err-broken c =
+    edges_refused _ _ _ _ _ (sym c.header.ensures ∙ c.in_ok-size.was) (sym c.read_edges.ensures ∙ c.in_err-broken.was) _ (grind arith)

@@ -3,4 +3,4 @@ use Rattle.ffi_planner.proofs.Handing.{exported}
 use Rattle.ffi_planner.proofs.secondcoop_plan.Goals as goal
 
 pub returns : goal.returns
-returns c = exported _ _ _ _ c.of_answer.ensures c.plan-answer.ensures
+returns c = exported _ _ _ _ c.from.ensures c.plan.ensures

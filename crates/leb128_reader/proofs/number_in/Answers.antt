@@ -1,16 +1,17 @@
 -- `number_in` meets its contract: each answer follows the bits tested so far.
 use Prim.Native.Nat.{ℕ}
 use native.Mathlib.Omega.{arith}
-use mathlib.Core.Path.{◌≡◌, ap, ◌∙◌}
-use Rattle.leb128.specs.declared.NumberRead.TheVariants.{Value}
+use mathlib.Core.Path.{◌≡◌, ◌∙◌}
+use Rattle.std.specs.Prelude.{Ok}
+use Rattle.leb128.specs.Number.{NumberRead}
 use Rattle.leb128_reader.proofs.Groups.{one, zero_2, two, zero_3, three, zero_4, over, four}
 use Rattle.leb128_reader.proofs.WordBytes.{small, last_1, more_1, last_2, more_2, last_3, more_3, whole_4}
 use Rattle.leb128_reader.proofs.number_in.Goals as goal
 
 -- the offset past a number, as it is counted
 
-counted : (v m n : ℕ) → m ≡ n → Value v m ≡ Value v n
-counted v m n e = ap (Value v) e
+counted : (v m n : ℕ) → m ≡ n → ◌≡◌ {A = NumberRead} (Ok (v, m)) (Ok (v, n))
+counted v m n e = cc
 
 pub returns-then-word-eq0 : goal.returns-then-word-eq0
 returns-then-word-eq0 c = λ s f h e. one s _ _ (small _) h (last_1 _ _ s f e c.if-word-eq0.true)

@@ -10,15 +10,12 @@ pub returns-then-bytes-at : goal.returns-then-bytes-at
 unfolding plan_groups job_groups
 returns-then-bytes-at c = answer_lost 5 _ _ (lost_end 5 _ _ c.if-bytes-at.true)
 
-pub overflow_cast-a : goal.overflow_cast-a
-overflow_cast-a c = omega (arith, c.type_inv.bytes c.args.at)
-
 pub returns-then-a-lt128 : goal.returns-then-a-lt128
 unfolding plan_groups job_groups
 returns-then-a-lt128 c =
     let a = c.args in
     let f = found_last 4 a.bytes.now a.at c.if-bytes-at.false c.if-a-lt128.true in
-    answer_value 5 a.bytes.now a.at _ 1 f (omega arith)
+    rw c.from.ensures (answer_value 5 a.bytes.now a.at _ 1 f (omega arith))
 
 pub returns-in_default : goal.returns-in_default
 unfolding plan_groups job_groups
@@ -31,23 +28,19 @@ pub returns-then-rest-eq0 : goal.returns-then-rest-eq0
 unfolding plan_groups job_groups
 returns-then-rest-eq0 c =
     let a = c.args in
-    let e = sym c.read_plan_number.ensures ∙ c.in-Value.is in
+    let e = sym c.read_plan_number.ensures ∙ c.in-Ok.is in
     rest_zero 4 a.bytes.now a.at (a.at + 1) (omega arith) c.if-bytes-at.false c.if-a-lt128.false _ _ e c.if-rest-eq0.true
-
-pub overflow_add-value : goal.overflow_add-value
-overflow_add-value c =
-    omega (arith, c.type_inv.bytes c.args.at)
 
 pub returns-then-value-lt4294967296 : goal.returns-then-value-lt4294967296
 unfolding plan_groups job_groups
 returns-then-value-lt4294967296 c =
     let a = c.args in
-    let e = sym c.read_plan_number.ensures ∙ c.in-Value.is in
-    rest_value 4 a.bytes.now a.at (a.at + 1) (omega arith) c.if-bytes-at.false c.if-a-lt128.false _ _ e c.if-rest-eq0.false c.if-value-lt4294967296.true
+    let e = sym c.read_plan_number.ensures ∙ c.in-Ok.is in
+    rw c.from-2.ensures (rw c.from-3.ensures (rest_value 4 a.bytes.now a.at (a.at + 1) (omega arith) c.if-bytes-at.false c.if-a-lt128.false _ _ e c.if-rest-eq0.false (omega (arith, c.if-value-lt4294967296.true, c.from-2.ensures, c.from-3.ensures))))
 
 pub returns-else-value-lt4294967296 : goal.returns-else-value-lt4294967296
 unfolding plan_groups job_groups
 returns-else-value-lt4294967296 c =
     let a = c.args in
-    let e = sym c.read_plan_number.ensures ∙ c.in-Value.is in
-    rest_wide 4 a.bytes.now a.at (a.at + 1) (omega arith) c.if-bytes-at.false c.if-a-lt128.false _ _ e c.if-rest-eq0.false c.if-value-lt4294967296.false
+    let e = sym c.read_plan_number.ensures ∙ c.in-Ok.is in
+    rest_wide 4 a.bytes.now a.at (a.at + 1) (omega arith) c.if-bytes-at.false c.if-a-lt128.false _ _ e c.if-rest-eq0.false (omega (arith, c.if-value-lt4294967296.false, c.from-2.ensures, c.from-3.ensures))

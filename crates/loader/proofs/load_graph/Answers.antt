@@ -1,19 +1,15 @@
 -- `load_graph` meets its contract: the words after j edges, and after all.
-use mathlib.Core.Path.{refl, ◌∙◌}
+use mathlib.Core.Path.{refl}
 use native.Mathlib.Omega.{arith}
 use lib.ListN.{length-set}
 use Rattle.plan_check.proofs.Checked.{has_next}
 use Rattle.workspace.specs.Layout.{base}
-use Rattle.loader.proofs.Loading.{loading_none, loading_next, loading_all}
+use Rattle.loader.proofs.Loading.{loading_next, loading_all}
 use Rattle.loader.proofs.load_graph.Goals as goal
 
 pub bounds-work-0 : goal.bounds-work-0
 unfolding base
 bounds-work-0 c = omega (arith, c.requires.z_in_bounds)
-
-pub loop-j-init : goal.loop-j-init
-loop-j-init c =
-    loading_none c.args.z _ c.args.at _ _ c.first-cursor.ensures c.requires.at_value
 
 pub load_edge-cursor-requires : goal.load_edge-cursor-requires
 load_edge-cursor-requires c =
@@ -29,22 +25,13 @@ loop-j-preserved c =
     let e = c.load_edge-cursor.ensures in
     loading_next c.args.z _ c.args.at _ l.work l.j l.cursor l.invariant _ _ c.loop-j-test.true e.value e.work_after
 
-pub overflow_cast-last : goal.overflow_cast-last
-overflow_cast-last c = omega (arith, c.loop-j.invariant.tail)
-
-pub overflow_add-last : goal.overflow_add-last
-overflow_add-last c = omega (arith, c.loop-j.invariant.tail)
-
-pub fill_first-requires : goal.fill_first-requires
+pub slice_bounds-fill-end : goal.slice_bounds-fill-end
 unfolding base
-fill_first-requires c =
+slice_bounds-fill-end c =
     omega (arith, simp length-set at c.loop-j.invariant.size, c.requires.z_in_bounds)
-
-pub shape_of-work : goal.shape_of-work
-shape_of-work c = c.fill_first.auto.work ∙ simp length-set at c.loop-j.invariant.size
 
 pub returns : goal.returns
 returns c =
     let l = c.loop-j in
-    loading_all c.args.z _ c.args.at _ l.work l.j l.cursor l.invariant c.args.work.now _ c.requires.z_in_bounds refl c.loop-j-test.false c.requires.at_value
-    c.fill_first.ensures
+    loading_all c.args.z _ c.args.at _ l.work l.j l.cursor l.invariant c.args.work.now _ _ c.requires.z_in_bounds refl c.loop-j-test.false c.requires.at_value
+    (c.fill.ensures.after (λ y e. e)) refl

@@ -1,21 +1,18 @@
--- `write` meets its contract: what is refused is refused by the first pass, and else the bytes are laid where there is room.
-use Rattle.plan_writer.proofs.Writer.{answers_fault, plan_fits, answers_short, answers_count}
+-- `write` meets its contract: the edges were measured, and are laid where there is room.
+use mathlib.Core.Path.{sym, ap, ◌∙◌}
+use Rattle.std.specs.Prelude.{Err}
+use Rattle.plan_writer.proofs.Writer.{plan_fits, answer_count, answer_short}
 use Rattle.plan_writer.proofs.write.Goals as goal
 
-pub returns-in_default : goal.returns-in_default
-returns-in_default c =
-    let e = answers_fault _ _ _ _ _ _ _ _ _ c.measure-measured.ensures c.in_default.is in
-    record { value = e.0; out_after = e.1 }
-
-pub returns-then-out-size : goal.returns-then-out-size
-returns-then-out-size c =
-    let e = answers_short _ _ _ _ _ _ _ _ c.measure-measured.ensures c.in-Count.is c.if-out-size.true in
-    record { value = e.0; out_after = e.1 }
+pub returns-then-out-size-clause-value : goal.returns-then-out-size-clause-value
+returns-then-out-size-clause-value c =
+    ap Err c.at.ensures
+    ∙ answer_short _ _ _ _ _ _ _ c.in_ok-plan.ensures _ (sym c.measure.ensures ∙ c.in_ok-size.was) c.if-out-size.true
 
 pub lay-requires : goal.lay-requires
-lay-requires c = plan_fits _ _ _ _ _ _ _ _ c.measure-measured.ensures c.in-Count.is c.if-out-size.false
+lay-requires c =
+    plan_fits _ _ _ _ _ _ _ c.in_ok-plan.ensures _ (sym c.measure.ensures ∙ c.in_ok-size.was) c.if-out-size.false
 
-pub returns : goal.returns
-returns c =
-    let e = answers_count _ _ _ _ _ _ _ _ c.measure-measured.ensures c.in-Count.is c.if-out-size.false _ c.lay.ensures in
-    record { value = e.0; out_after = e.1 }
+pub returns-clause-value : goal.returns-clause-value
+returns-clause-value c =
+    answer_count _ _ _ _ _ _ _ c.in_ok-plan.ensures _ (sym c.measure.ensures ∙ c.in_ok-size.was) c.if-out-size.false

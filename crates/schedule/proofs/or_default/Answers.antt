@@ -2,8 +2,8 @@
 use Rattle.schedule.proofs.Taken.{default_there, given_there}
 use Rattle.schedule.proofs.or_default.Goals as goal
 
-pub returns-then-given-eq0 : goal.returns-then-given-eq0
-returns-then-given-eq0 c = default_there _ _ c.if-given-eq0.true
+pub returns-then-is_empty : goal.returns-then-is_empty
+returns-then-is_empty c = default_there _ _ c.if-is_empty.ensures
 
-pub returns : goal.returns
-returns c = given_there _ _ c.if-given-eq0.false
+pub returns-else-is_empty : goal.returns-else-is_empty
+returns-else-is_empty c = given_there _ _ c.if-is_empty.ensures

@@ -1,31 +1,21 @@
 -- `list_edges` meets its contract. The loop's invariant: the edges of the tails before t are listed.
-use native.Mathlib.Omega.{arith}
-use Rattle.explanation.proofs.Listing.{tails_none, tails_few, tails_next, tails_all, tails_length}
+use Rattle.std.proofs.Common.{rules, arith}
+use Rattle.explanation.proofs.Listing.{tails_none, tails_few, tails_length, tails_next, tails_all, handed_back}
 use Rattle.explanation.proofs.edges.list_edges.Goals as goal
 
 pub loop-t-init : goal.loop-t-init
 loop-t-init c = tails_none _ _ _ _
 
-pub list_edges_of-k-requires : goal.list_edges_of-k-requires
-list_edges_of-k-requires c =
-    let l = c.loop-t in (
-      c.requires.0,
+pub list_edges_of-requires : goal.list_edges_of-requires
+list_edges_of-requires c =
+    let i = c.loop-t.invariant in (
       c.loop-t-test.true,
-      tails_few _ _ c.requires.1 _ _ l.t l.k l.list l.invariant,
-      omega (arith, c.requires.2, tails_length _ _ c.requires.1 _ _ l.t l.k l.list l.invariant),
+      omega (arith, tails_few _ _ c.requires.0 _ _ _ _ i),
+      omega (arith, tails_length _ _ c.requires.0 _ _ _ _ i, c.requires.1),
     )
 
 pub loop-t-preserved : goal.loop-t-preserved
-loop-t-preserved c =
-    let l = c.loop-t in
-    tails_next _ _ c.requires.1 _ _ l.t l.k l.list l.invariant _ _ c.loop-t-test.true c.list_edges_of-k.ensures
-
-pub shape_of-list : goal.shape_of-list
-shape_of-list c =
-    let l = c.loop-t in
-    tails_length _ _ c.requires.1 _ _ l.t l.k l.list l.invariant
+loop-t-preserved c = tails_next _ _ c.requires.0 _ _ _ _ c.loop-t.invariant _ c.loop-t-test.true c.list_edges_of.ensures
 
 pub returns : goal.returns
-returns c =
-    let l = c.loop-t in
-    tails_all _ _ c.requires.1 _ _ l.t l.k l.list l.invariant c.loop-t-test.false
+returns c = handed_back _ (tails_all _ _ c.requires.0 _ _ _ _ c.loop-t.invariant c.loop-t-test.false) (search (rules, c.loop-t.invariant.adds.lent))

@@ -1,31 +1,28 @@
 -- `list_vertices` meets its contract. The loop's invariant: the vertices before s are listed.
-use native.Mathlib.Omega.{arith}
-use Rattle.workspace.specs.Layout.{mem}
-use Rattle.workspace.proofs.Written.{length_vertices_of}
-use Rattle.explanation.proofs.Listing.{listed_none, listed_few, listed_next, listed_all, listed_length}
+use Rattle.std.proofs.Common.{rules, arith}
+use Rattle.workspace.proofs.Spaces.{length_vertices_in}
+use Rattle.explanation.proofs.Listing.{listed_none, listed_few, listed_room, vertex_listed, vertex_passed, listed_all, handed_back}
 use Rattle.explanation.proofs.vertices.list_vertices.Goals as goal
+use Rattle.explanation.proofs.vertices.list_vertices.Goals.{then-is_reached, else-is_reached}
 
 pub loop-s-init : goal.loop-s-init
 loop-s-init c = listed_none _ _
 
-pub add-k-requires : goal.add-k-requires
-add-k-requires c =
-    let l = c.loop-s in
-    let few = listed_few _ _ l.s l.k l.list l.invariant in
-    (omega (arith, few, c.requires.1, listed_length _ _ l.s l.k l.list l.invariant), omega (arith, few))
+pub push-requires : goal.push-requires
+push-requires c =
+    let n = length_vertices_in c.args.space.now in (
+      listed_room _ _ _ _ c.loop-s.invariant (omega (arith, n, c.requires)) (omega (arith, n, c.loop-s-test.true)),
+      omega (arith, listed_few _ _ _ _ c.loop-s.invariant, c.loop-s-test.true),
+    )
 
 pub loop-s-preserved : goal.loop-s-preserved
 loop-s-preserved c =
-    let l = c.loop-s in
-    listed_next _ _ l.s l.k l.list l.invariant _ _ _
-    (omega (arith, length_vertices_of c.args.z (mem c.args.work.now c.args.wide.now)))
-    c.is_reached.ensures
-    c.add-k.ensures
-
-pub shape_of-list : goal.shape_of-list
-shape_of-list c = let l = c.loop-s in listed_length _ _ l.s l.k l.list l.invariant
+    let n = length_vertices_in c.args.space.now in
+    elim c.if-is_reached.branch [
+      | then-is_reached w ↦ rw w.list-is (vertex_listed _ _ _ _ c.loop-s.invariant _ (omega (arith, n)) c.is_reached.ensures w.if-is_reached.true _ w.push.ensures)
+      | else-is_reached w ↦ rw w.list-is (vertex_passed _ _ _ _ c.loop-s.invariant _ (omega (arith, n)) c.is_reached.ensures w.if-is_reached.false)
+    ]
 
 pub returns : goal.returns
 returns c =
-    let l = c.loop-s in
-    listed_all _ _ l.s l.k l.list l.invariant (omega (arith, length_vertices_of c.args.z (mem c.args.work.now c.args.wide.now)))
+    handed_back _ (listed_all _ _ _ _ c.loop-s.invariant (omega (arith, length_vertices_in c.args.space.now))) (search (rules, c.loop-s.invariant.adds.lent))

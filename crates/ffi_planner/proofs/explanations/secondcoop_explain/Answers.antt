@@ -3,4 +3,4 @@ use Rattle.ffi_planner.proofs.Handing.{exported_reason}
 use Rattle.ffi_planner.proofs.explanations.secondcoop_explain.Goals as goal
 
 pub returns : goal.returns
-returns c = exported_reason _ _ _ _ _ _ c.of_explanation.ensures c.explain-explanation.ensures
+returns c = exported_reason _ _ _ _ _ _ c.from.ensures c.explain-explanation.ensures

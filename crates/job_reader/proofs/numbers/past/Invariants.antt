@@ -1,10 +1,6 @@
--- `past` meets its contract. The loop's invariant: the numbers left end where all do.
-use mathlib.Core.Path.{◌≡◌}
-use Rattle.job.specs.Numbers.{end_of}
+-- `past` meets its contract: the numbers that are left end where all do.
+use Rattle.job_reader.proofs.Ends.{Ending}
 use Rattle.job_reader.proofs.numbers.past.Given as goal
 
-abbrev pub invariant-loop-left : goal.invariant-loop-left
-invariant-loop-left l = end_of l.count l.job l.at ≡ end_of l.left l.job l.end
-
-abbrev pub decreases-loop-left : goal.decreases-loop-left
-decreases-loop-left l = l.left
+abbrev pub invariant-loop : goal.invariant-loop
+invariant-loop l = Ending l.job l.count l.at l.counter l.end

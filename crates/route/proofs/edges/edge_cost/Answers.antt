@@ -1,42 +1,27 @@
 -- `edge_cost` meets its contract.
-use mathlib.Core.Path.{sym, ap}
-use native.Mathlib.Numerals.{add-one}
+use mathlib.Core.Path.{sym, ap, ◌∙◌}
 use native.Mathlib.Omega.{arith}
-use Rattle.workspace.specs.Layout.{first_of}
+use Rattle.std.specs.Prelude.{Some}
 use Rattle.route.specs.Costs.{max_word}
-use Rattle.route.proofs.Found.{looking_none, looking_more, looking_all, cost_outside, none_most}
+use Rattle.route.proofs.Found.{looking_none, looking_more, looking_found, looking_all, cost_outside, none_most, cost_most}
 use Rattle.route.proofs.edges.edge_cost.Goals as goal
 
-pub returns-then-vertices-a : goal.returns-then-vertices-a
-returns-then-vertices-a c =
+pub returns-then-graph-a : goal.returns-then-graph-a
+returns-then-graph-a c =
     let s = c.args in
-    (sym (cost_outside s.z s.work.now s.a s.b c.if-vertices-a.true), none_most max_word)
-
-pub first_edge-j-requires : goal.first_edge-j-requires
-first_edge-j-requires c = (omega (arith, c.requires.room), omega arith)
-
-pub first_edge-end-requires : goal.first_edge-end-requires
-first_edge-end-requires c = (omega (arith, c.requires.room), omega arith)
+    (sym (cost_outside s.graph.size s.graph.words.now s.a s.b c.if-graph-a.true), none_most max_word)
 
 pub loop-j-init : goal.loop-j-init
-loop-j-init c =
-    let s = c.args in
-    (looking_none s.z s.work.now s.a s.b _ _ (omega arith) c.first_edge-j.ensures c.first_edge-end.ensures, none_most max_word)
+loop-j-init c = looking_none _ _ _ _ _ _ c.if-graph-a.false c.first_edge-j.ensures.value c.first_edge-j-end.ensures.value
 
-pub look-found-requires : goal.look-found-requires
-look-found-requires c =
-    let w = c.args.work.now in
-    let a = c.args.a in
-    (omega (arith, c.requires.room), omega (arith, c.requires.ends a (omega arith), ap (first_of w) (add-one a), c.first_edge-end.ensures), c.loop-j.invariant.1)
+pub returns-then-edge-b : goal.returns-then-edge-b
+returns-then-edge-b c = (
+  ap Some c.from.ensures ∙ looking_found _ _ _ _ _ c.loop-j.j c.loop-j.invariant c.loop-j-test.true _ c.edge-edge.ensures.value c.if-edge-b.true,
+  cost_most _ _ (omega arith),
+)
 
 pub loop-j-preserved : goal.loop-j-preserved
-loop-j-preserved c =
-    let s = c.args in
-    let l = c.loop-j in
-    (looking_more s.z s.work.now s.a s.b _ l.j l.found l.invariant.0 _ c.loop-j-test.true c.look-found.ensures.0, c.look-found.ensures.1)
+loop-j-preserved c = looking_more _ _ _ _ _ c.loop-j.j c.loop-j.invariant c.loop-j-test.true _ c.edge-edge.ensures.value c.if-edge-b.false
 
 pub returns : goal.returns
-returns c =
-    let s = c.args in
-    let l = c.loop-j in
-    (looking_all s.z s.work.now s.a s.b _ l.j l.found l.invariant.0 c.loop-j-test.false, l.invariant.1)
+returns c = (looking_all _ _ _ _ _ c.loop-j.j c.loop-j.invariant c.loop-j-test.false, none_most max_word)

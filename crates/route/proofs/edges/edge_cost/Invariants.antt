@@ -1,11 +1,6 @@
--- `edge_cost` meets its contract.
-use Prim.Native.Nat.{◌-◌}
-use Rattle.route.specs.Costs.{max_word, AtMost}
+-- `edge_cost` meets its contract: what is found among the edges from the next one on is that of the graph.
 use Rattle.route.proofs.Found.{Looking}
 use Rattle.route.proofs.edges.edge_cost.Given as goal
 
 abbrev pub invariant-loop-j : goal.invariant-loop-j
-invariant-loop-j l = Looking l.z l.work l.a l.b l.end l.j l.found × AtMost max_word l.found
-
-abbrev pub decreases-loop-j : goal.decreases-loop-j
-decreases-loop-j l = l.end - l.j
+invariant-loop-j l = Looking l.graph.size l.graph.words.now l.a l.b l.j-end l.j

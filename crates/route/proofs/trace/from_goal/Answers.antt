@@ -4,10 +4,7 @@ use Rattle.route.proofs.Traces.{tracing_none, tracing_more, tracing_start, traci
 use Rattle.route.proofs.trace.from_goal.Goals as goal
 
 pub loop-t-init : goal.loop-t-init
-loop-t-init c = tracing_none c.args.z c.args.work.now c.args.start c.args.goal c.requires.1
-
-pub back-t-requires : goal.back-t-requires
-back-t-requires c = (c.requires.0, c.loop-t-test.true, c.loop-t.invariant.pays)
+loop-t-init c = tracing_none c.args.graph.size c.args.graph.words.now c.args.start c.args.goal c.requires
 
 pub loop-t-smaller : goal.loop-t-smaller
 loop-t-smaller c =
@@ -17,16 +14,16 @@ pub loop-t-preserved : goal.loop-t-preserved
 loop-t-preserved c =
     let s = c.args in
     let l = c.loop-t in
-    tracing_more s.z s.work.now s.start s.goal l.t l.invariant _ c.loop-t-test.true c.if-t-start.true c.back-t.ensures.0 c.back-t.ensures.1
+    tracing_more s.graph.size s.graph.words.now s.start s.goal l.t l.invariant _ c.loop-t-test.true c.if-t-start.true c.back-t.ensures.0 c.back-t.ensures.1
 
 pub returns-else-t-start : goal.returns-else-t-start
 returns-else-t-start c =
     let s = c.args in
     let l = c.loop-t in
-    tracing_start s.z s.work.now s.start s.goal l.t l.invariant c.if-t-start.false
+    tracing_start s.graph.size s.graph.words.now s.start s.goal l.t l.invariant c.if-t-start.false
 
 pub returns-after-loop-t : goal.returns-after-loop-t
 returns-after-loop-t c =
     let s = c.args in
     let l = c.loop-t in
-    tracing_full s.z s.work.now s.start s.goal l.t l.invariant c.loop-t-test.false
+    tracing_full s.graph.size s.graph.words.now s.start s.goal l.t l.invariant c.loop-t-test.false

@@ -4,7 +4,7 @@ use Rattle.route.proofs.Traces.{Tracing}
 use Rattle.route.proofs.trace.from_goal.Given as goal
 
 abbrev pub invariant-loop-t : goal.invariant-loop-t
-invariant-loop-t l = Tracing l.z l.work l.start l.goal l.t
+invariant-loop-t l = Tracing l.graph.size l.graph.words.now l.start l.goal l.t
 
 abbrev pub decreases-loop-t : goal.decreases-loop-t
-decreases-loop-t l = l.z.vertices - l.t.length
+decreases-loop-t l = l.graph.size.vertices - l.t.length

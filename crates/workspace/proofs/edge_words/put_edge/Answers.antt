@@ -1,22 +1,21 @@
 -- `put_edge` meets its contract.
 use native.Mathlib.Omega.{arith}
 use lib.ListN.{length-set}
-use mathlib.Core.Path.{refl}
-use Rattle.workspace.specs.Layout.{base, edge_put}
+use Rattle.workspace.specs.Layout.{base}
+use Rattle.workspace.proofs.Firsts.{edge_laid}
 use Rattle.workspace.proofs.edge_words.put_edge.Goals as goal
 
-pub bounds-work-h : goal.bounds-work-h
+pub bounds-work-at : goal.bounds-work-at
 unfolding base
-bounds-work-h c = omega arith
+bounds-work-at c = omega arith
 
-pub bounds-work-c : goal.bounds-work-c
+pub bounds-work-at-2 : goal.bounds-work-at-2
 unfolding base
-bounds-work-c c = simp length-set (omega arith)
+bounds-work-at-2 c = simp length-set (omega arith)
 
-pub bounds-work-k : goal.bounds-work-k
+pub bounds-work-at-3 : goal.bounds-work-at-3
 unfolding base
-bounds-work-k c = simp length-set (omega arith)
+bounds-work-at-3 c = simp length-set (omega arith)
 
 pub returns : goal.returns
-unfolding edge_put
-returns c = refl
+returns c = edge_laid c.args.z c.args.work.now c.args.j c.args.edge

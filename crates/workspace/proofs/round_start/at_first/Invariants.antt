@@ -1,5 +1,4 @@
 -- `at_first` meets its contract.
-use Prim.Native.Nat.{◌-◌, ◌≤◌}
 use mathlib.Core.Path.{◌≡◌}
 use lib.ListN.{length, replicate}
 use Rattle.search.specs.Job.{fresh}
@@ -7,7 +6,4 @@ use Rattle.workspace.specs.Layout.{mem, written}
 use Rattle.workspace.proofs.round_start.at_first.Given as goal
 
 abbrev pub invariant-loop-p : goal.invariant-loop-p
-invariant-loop-p l = (l.p ≤ l.vertices) × (length l.work ≡ length l.initial.work) × (length l.wide ≡ length l.initial.wide) × (mem l.work l.wide ≡ written l.z (replicate l.p fresh) (mem l.initial.work l.initial.wide))
-
-abbrev pub decreases-loop-p : goal.decreases-loop-p
-decreases-loop-p l = l.vertices - l.p
+invariant-loop-p l = (length l.work ≡ length l.initial.work) × (length l.wide ≡ length l.initial.wide) × (mem l.work l.wide ≡ written l.z (replicate l.p fresh) (mem l.initial.work l.initial.wide))

@@ -1,8 +1,7 @@
 -- `origin` meets its contract.
-use Rattle.search.specs.Job.{origin, unreached, no_pred}
-use Rattle.std.proofs.Common.{rules}
+use Rattle.search.specs.Job.{fresh, origin, unreached, no_pred}
 use Rattle.workspace.proofs.round_start.origin.Goals as goal
 
 pub returns : goal.returns
-unfolding origin unreached no_pred
-returns c = search rules
+unfolding origin fresh unreached no_pred
+returns c = rw c.fresh.ensures

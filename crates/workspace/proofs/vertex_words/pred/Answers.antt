@@ -4,10 +4,10 @@ use Rattle.search.specs.Job.{no_pred}
 use Rattle.workspace.specs.Layout.{pred_of}
 use Rattle.workspace.proofs.vertex_words.pred.Goals as goal
 
-pub returns-then-x-vertices : goal.returns-then-x-vertices
+pub returns-then-x-z : goal.returns-then-x-z
 unfolding pred_of
-returns-then-x-vertices c = rw (lt-ltb _ _ c.if-x-vertices.true, c.base.ensures)
+returns-then-x-z c = rw (lt-ltb _ _ c.if-x-z.true, c.base.ensures)
 
 pub returns : goal.returns
 unfolding pred_of no_pred
-returns c = rw (le-ltb _ _ c.if-x-vertices.false)
+returns c = rw (le-ltb _ _ c.if-x-z.false)

@@ -1,5 +1,0 @@
--- The levels left fall with each call of `sink`.
-use Rattle.heap.proofs.sift_down.+sink.Given as goal
-
-abbrev pub decreases-sink : goal.decreases-sink
-decreases-sink l = l.levels
