@@ -13,13 +13,11 @@ use Rattle.graph.specs.Lists.{Fault, none, fault, edges_in}
 use Rattle.graph.proofs.Plan as laws
 use Rattle.graph.proofs.Plan.{accepted≢refused, header_parts}
 use Rattle.leb128.proofs.Result.{err≢ok}
-use Rattle.search.specs.Call.{Memory, Call, schedule_of, fault_in, fault_of, plan_edges, job_in, job_from, job_of}
+use Rattle.search.specs.Call.{Call, fault_in, fault_of, plan_edges, job_in, job_from, job_of}
 use Rattle.search.specs.Admitted.{Admissible}
 use Rattle.search.proofs.Admitted.{clear}
-use Rattle.admission.specs.declared.Call.{Call as Asked}
-use Rattle.admission.specs.declared.Lengths.{Lengths}
 use Rattle.admission.specs.Verdict.{Verdict, verdict}
-use Rattle.admission.specs.Admission.{first_edge_at, verdict_of, call_with, Decided}
+use Rattle.admission.specs.Admission.{first_edge_at, verdict_of}
 
 -- the header of a plan that is accepted
 pub accepted_header :
@@ -79,24 +77,3 @@ refused_by w k at r (fault n p) h = let z : refusal_of n p ≡ r = cc in ap (λ 
 pub refuses : (c : Call) (r : Refusal) → verdict_of c ≡ Err r → fault_of c ≡ fault r.cause r.at
 unfolding verdict_of
 refuses c r h = refused_by (job_of c).size (length (plan_edges c)) (first_edge_at (header c.bytes)) r (fault_of c) h
-
--- what is decided of a call is the verdict on it with any memory of these lengths
-pub decided_with :
-    (q : Asked) (lengths : Lengths) (r : Verdict) (m : Memory) → Decided q lengths r →
-    length m.route ≡ lengths.route → length m.work ≡ lengths.work → length m.wide ≡ lengths.wide → r ≡ verdict_of (call_with q m)
-unfolding schedule_of
-decided_with q lengths r m d e f g =
-    d.decided (call_with q m)
-    (record {
-      bytes_is = refl;
-      start_is = refl;
-      goal_is = refl;
-      barred_is = refl;
-      anchor_is = refl;
-      sheets_is = refl;
-      count_is = refl;
-      schedule_is = refl;
-      route_is = e;
-      work_is = f;
-      wide_is = g;
-    })

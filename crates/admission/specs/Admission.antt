@@ -2,7 +2,7 @@
 use Rattle.std.specs.Prelude.{ℕ, ◌≡◌, List, length, Ok, Err}
 use Rattle.graph.specs.Refusal.{Header}
 use Rattle.graph.specs.Plan.{header}
-use Rattle.search.specs.Call.{Memory, Call, or_default, schedule_of, fault_of, plan_edges, job_of}
+use Rattle.search.specs.Call.{Call, or_default, schedule_of, fault_of, plan_edges, job_of}
 use Rattle.admission.specs.declared.Call.{Call as Asked}
 use Rattle.admission.specs.declared.Lengths.{Lengths}
 use Rattle.admission.specs.Verdict.{Verdict, verdict}
@@ -14,23 +14,6 @@ first_edge_at (Err e) = 0
 
 unfoldable pub verdict_of : Call → Verdict
 verdict_of c = verdict (job_of c).size (length (plan_edges c)) (first_edge_at (header c.bytes)) (fault_of c)
-
--- the call that is made with this memory
-abbrev pub call_with : Asked → Memory → Call
-call_with q memory =
-    record {
-      bytes = q.bytes.now;
-      start = q.start;
-      goal = q.goal;
-      barred = q.barred;
-      anchor = q.anchor.now;
-      sheets = q.guides.now;
-      count = q.guide_count;
-      schedule = q.schedule.now;
-      default_schedule = q.default_schedule.now;
-      budget = q.budget;
-      memory = memory;
-    }
 
 -- the schedule that a call takes
 abbrev pub taken : Asked → List ℕ

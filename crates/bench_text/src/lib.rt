@@ -19,7 +19,8 @@ pub fn bench_text(job: &[u8], out: &mut [u8]) -> usize
     }
 }
 
-// The lines of a job's explanation: their length, and their first bytes in the buffer, as far as there is room.
+// The lines of a job's explanation: their length, and their first bytes in the buffer, as far as there is room. Apart from
+// the above, as C has both.
 pub fn explain_text(job: &[u8], out: &mut [u8]) -> usize
     ensures { Texts (explain_text job.now) out.old result out.new }
 {

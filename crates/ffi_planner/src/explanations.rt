@@ -35,7 +35,7 @@ impl From<Explanation> for ReasonFigures {
     }
 }
 
-// A planner call with the reason for "no route".
+// A planner call with the reason for "no route". One by one, as the C interface has them.
 #[unsafe(no_mangle)]
 pub extern "C" fn secondcoop_explain<'a>(
     bytes: &[u8],

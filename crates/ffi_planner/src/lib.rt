@@ -78,7 +78,7 @@ pub extern "C" fn secondcoop_load_house(
     10
 }
 
-// A planner call.
+// A planner call. One by one, as the C interface has them: `Call` is made of them here.
 #[unsafe(no_mangle)]
 pub extern "C" fn secondcoop_plan<'a>(
     bytes: &[u8],

@@ -21,7 +21,7 @@ use Rattle.graph.specs.declared.Size.{Size}
 use Rattle.admission.specs.declared.Call.{Call as Asked}
 use Rattle.admission.specs.Admission.{taken, verdict_of, Decided}
 use Rattle.admission.specs.Verdict.{Verdict}
-use Rattle.admission.proofs.Admits.{Admits, admits, refuses, decided_with}
+use Rattle.admission.proofs.Admits.{Admits, admits, refuses}
 use Rattle.workspace.specs.declared.Workspace.{Workspace}
 use Rattle.workspace.specs.Layout.{Words, Ready}
 use Rattle.workspace.specs.Space.{space_words}
@@ -136,7 +136,22 @@ module _ (q : Asked) (z : Size) (at : ℕ) (m : Memory) (h : Admission q z at m)
 module _ (q : Asked) (m : Memory) (d : Verdict)
     (k : Decided q (record { route = length m.route; work = length m.work; wide = length m.wide }) d) where
   decided : d ≡ verdict_of (call_with q m)
-  decided = decided_with q (record { route = length m.route; work = length m.work; wide = length m.wide }) d m k refl refl refl
+  unfolding schedule_of
+  decided =
+      k.decided (call_with q m)
+      (record {
+        bytes_is = refl;
+        start_is = refl;
+        goal_is = refl;
+        barred_is = refl;
+        anchor_is = refl;
+        sheets_is = refl;
+        count_is = refl;
+        schedule_is = refl;
+        route_is = refl;
+        work_is = refl;
+        wide_is = refl;
+      })
 
   pub planned_refused : (e : Refusal) → d ≡ Err e → (r : Result Answer Refusal) → r ≡ Err e → Planned (call_with q m) r m
   unfolding answer answer_in memory_after memory_in

@@ -9,7 +9,8 @@ use search::Answer;
 use workspace::Workspace;
 
 // The answer to a call that is not refused, whose plan has its first edge at an offset: the search begins, makes
-// its turns, and is handed over.
+// its turns, and is handed over. The four lent memories are the C interface's, and work and wide are one struct as soon as
+// a graph is in them.
 pub fn answer(
     call: &Call<'_>,
     size: Size,
