@@ -33,7 +33,8 @@ use Rattle.job.specs.Reading.{max_job_vertices, max_job_edges}
 use Rattle.job.specs.Asked.{route_size}
 use Rattle.job.specs.Explained.{edge_line, reason_lines, inquiry_text}
 use Rattle.job.specs.Texts.{Texts}
-use Rattle.printing.specs.Shown.{Explainable, ExplainedShown}
+use Rattle.printing.specs.Shown.{refusal_shown, Explainable, ExplainedShown}
+use Rattle.printing.proofs.Answered.{figures_shown}
 
 -- the graph counts only where there is no route
 same_lines : (e : Ending) (g h : List Edge) (a b : List ℕ) → (e ≡ no_route → g ≡ h) → reason_lines e g a b ≡ reason_lines e h a b
@@ -43,14 +44,14 @@ same_lines no_route g h a b f = rw (f refl)
 same_lines unfinished g h a b f = refl
 same_lines refused g h a b f = refl
 
-module _ (x : Inquiry) (z : Size) (size_is : z ≡ size_in (header x.call.bytes)) (r : Explanation) (m : Memory) (vertices edges : List ℕ)
+module _ (x : Inquiry) (z : Size) (size_is : z ≡ size_in (header x.call.bytes)) (r : Explanation Refusal) (m : Memory) (vertices edges : List ℕ)
     (k : Explained x r m vertices edges) where
   abbrev c : Call
   c = x.call
 
   answer_is : r.answer ≡ answered x
   unfolding explanation
-  answer_is = ap (λ (u : Explanation). u.answer) k.answers
+  answer_is = ap (λ (u : Explanation Refusal). u.answer) k.answers
 
   module _ (h : (figures r.answer).ending ≡ no_route) where
     passed : inquiry_fault x ≡ none
@@ -82,10 +83,11 @@ module _ (x : Inquiry) (z : Size) (size_is : z ≡ size_in (header x.call.bytes)
 
   pub explainable :
       length m.route ≤ route_size → length vertices ≤ max_job_vertices → length edges ≤ max_job_edges →
-      Explainable r z m.route m.work vertices edges
+      Explainable refusal_shown r z m.route m.work vertices edges
   explainable a b d =
       record {
-        listed = λ h.
+        listed = λ k.
+            let h : (figures r.answer).ending ≡ no_route = rw (figures_shown r.answer) at k in
             record {
               whole = holds_whole z _ _ _ _ (held h);
               lines = lines h;
@@ -97,11 +99,12 @@ module _ (x : Inquiry) (z : Size) (size_is : z ≡ size_in (header x.call.bytes)
       }
 
   pub explained_text :
-      {old : List ℕ} {n : ℕ} {new : List ℕ} → ExplainedShown r m.route (graph_of z m.work) vertices edges old n new → Texts (inquiry_text x) old n new
+      {old : List ℕ} {n : ℕ} {new : List ℕ} → ExplainedShown refusal_shown r m.route (graph_of z m.work) vertices edges old n new → Texts (inquiry_text x) old n new
   unfolding inquiry_text
   explained_text t =
       let g = same_lines (figures r.answer).ending (graph_of z m.work) (plan_edges c) (take r.vertices vertices) (take r.edges edges) graph_there in
       rw (
+        figures_shown r.answer,
         g,
         taken_vertices x r vertices edges k.answers k.vertices_are,
         taken_edges x r vertices edges k.answers k.edges_are,

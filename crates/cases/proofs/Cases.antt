@@ -39,6 +39,7 @@ computed = (
     job_A_prints = prints_A;
     between_two_vertices = between_two_vertices;
     start_is_goal = start_is_goal;
+    numbers = refl;
     no_bytes = plan_refused _ _ _ refl;
     not_shortest = plan_refused _ _ _ refl;
     no_edge_count = plan_refused _ _ _ refl;

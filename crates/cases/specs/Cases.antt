@@ -1,6 +1,6 @@
 -- The cases that document 01 marks (p), one row each in one table, with classes and barred numbers as document 02 (E1) has them, and with both work memories (E10). Proved in proofs/Cases.antt.
 use Rattle.graph.specs.declared.refusal.Cause.TheVariants as cause
-use Rattle.std.specs.Prelude.{ℕ, ◌+◌, ◌-◌, ◌*◌, ◌≤◌, ◌≡◌, List, [], ◌∷◌, ◌++◌, length, take, replicate, Err}
+use Rattle.std.specs.Prelude.{ℕ, ◌+◌, ◌-◌, ◌*◌, ◌≤◌, ◌≡◌, List, [], ◌∷◌, ◌++◌, map, length, take, replicate, Err}
 use Rattle.graph.specs.declared.refusal.Cause.{Cause}
 use Rattle.graph.specs.Refusal.{number_of, refusal_of}
 use Rattle.graph.specs.Plan.{decode}
@@ -39,6 +39,12 @@ pub record PlanRefused (bytes : List ℕ) (n : Cause) (p : ℕ) : Type 0 where
   pub decoded : decode bytes ≡ Plan.refused n p
   pub read : (ts hs cs ks : List ℕ) → read_answer bytes ts hs cs ks ≡ Err (refusal_of n p)
   pub called : (c : Call) → c.bytes ≡ bytes → HandsOver c (refused_at (number_of n) p) c.memory
+
+-- the causes of the table of refusals, in its order
+abbrev pub causes : List Cause
+causes =
+    cause.Number ∷ cause.VertexCount ∷ cause.EdgeCount ∷ cause.Vertex ∷ cause.Cost ∷ cause.Order ∷ cause.LeftOver ∷ cause.Ends
+    ∷ cause.Tables ∷ cause.Schedule ∷ cause.Memory ∷ cause.Goal ∷ cause.AnchorRule ∷ cause.Job ∷ cause.Class ∷ []
 
 -- ---- plan A and job A
 
@@ -217,6 +223,8 @@ pub record Cases : Type 0 where
       (m : Memory) → Enough 2 0 m → HandsOver (two_vertices barred ws default budget m) (no_route_after 1) (two_vertices_after m)
   -- (p) Start = goal, allowance 0, valid tables: cost 0, every round finished. So of every call that is not refused
   pub start_is_goal : (c : Call) → Admitted c → c.start ≡ c.goal → HandsOver c (all_rounds c) (start_alone c)
+  -- the numbers of the causes that rows of this crate name: 1 to 15 in the table's order
+  pub numbers : map number_of causes ≡ 1 ∷ 2 ∷ 3 ∷ 4 ∷ 5 ∷ 6 ∷ 7 ∷ 8 ∷ 9 ∷ 10 ∷ 11 ∷ 12 ∷ 13 ∷ 14 ∷ 15 ∷ []
   -- (p) no bytes: 1 at 0
   pub no_bytes : PlanRefused [] cause.Number 0
   -- (p) `80 00`: 1 at 0

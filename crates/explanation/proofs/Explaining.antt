@@ -39,20 +39,20 @@ use Rattle.explanation.specs.Listing.{size_in, is_no_route, Source, Listable, re
 use Rattle.explanation.proofs.Lists.{same_listed}
 
 same_explanation : {a b : Result Answer Refusal} {v w e f : ℕ} → a ≡ b → v ≡ w → e ≡ f →
-    ◌≡◌ {A = Explanation} (record { answer = a; vertices = v; edges = e }) (record { answer = b; vertices = w; edges = f })
+    ◌≡◌ {A = Explanation Refusal} (record { answer = a; vertices = v; edges = e }) (record { answer = b; vertices = w; edges = f })
 same_explanation p q r = rw (p, q, r)
 
 -- ---- the first words of both lists, as many as are answered
 
-module _ (x : Inquiry) (r : Explanation) (vertices edges : List ℕ) (e : r ≡ explanation x) where
+module _ (x : Inquiry) (r : Explanation Refusal) (vertices edges : List ℕ) (e : r ≡ explanation x) where
   pub taken_vertices : vertices ≡ vertices_after x → take r.vertices vertices ≡ vertices_listed x
   unfolding vertices_after over explanation
   taken_vertices v =
-      ap (λ (u : Explanation). take u.vertices vertices) e ∙ ap (take (length (vertices_listed x))) v ∙ take-append_seam (vertices_listed x) _
+      ap (λ (u : Explanation Refusal). take u.vertices vertices) e ∙ ap (take (length (vertices_listed x))) v ∙ take-append_seam (vertices_listed x) _
 
   pub taken_edges : edges ≡ edges_after x → take r.edges edges ≡ edges_listed x
   unfolding edges_after over explanation
-  taken_edges w = ap (λ (u : Explanation). take u.edges edges) e ∙ ap (take (length (edges_listed x))) w ∙ take-append_seam (edges_listed x) _
+  taken_edges w = ap (λ (u : Explanation Refusal). take u.edges edges) e ∙ ap (take (length (edges_listed x))) w ∙ take-append_seam (edges_listed x) _
 
 -- ---- V and M
 
@@ -256,7 +256,7 @@ module _ (x : Inquiry) (z : Size) (size_is : z ≡ size_in (header x.call.bytes)
       pub listable : Listable a z (words_of m) x.vertices x.edges
       listable e = answers.source e
 
-      module _ (r : Explanation) (vertices edges : List ℕ) (l : Lists a z c.barred (words_of m) x.vertices x.edges r vertices edges) where
+      module _ (r : Explanation Refusal) (vertices edges : List ℕ) (l : Lists a z c.barred (words_of m) x.vertices x.edges r vertices edges) where
         vertices_same : reached_in a z (words_of m) ≡ vertices_listed x
         unfolding reached_in vertices_listed reached
         vertices_same =
@@ -288,7 +288,7 @@ module _ (x : Inquiry) (z : Size) (size_is : z ≡ size_in (header x.call.bytes)
         unfolding explanation
         says e =
             rw (taken_vertices x r vertices edges answers_are vertices_there, taken_edges x r vertices edges answers_are edges_there)
-            ((reasoned x).reason (ap (λ (u : Explanation). (figures u.answer).ending) (sym answers_are) ∙ e))
+            ((reasoned x).reason (ap (λ (u : Explanation Refusal). (figures u.answer).ending) (sym answers_are) ∙ e))
 
         pub explained : Explained x r (with_rest n c m) vertices edges
         explained =

@@ -1,5 +1,6 @@
 -- What an explanation promises: the answer, lent memory and both lists are those that the definitions give, and the lists say why there is no route.
 use Rattle.std.specs.Prelude.{ℕ, ◌≡◌, List, take}
+use Rattle.graph.specs.declared.refusal.Refusal.{Refusal}
 use Rattle.search.specs.declared.Explanation.{Explanation}
 use Rattle.search.specs.Call.{Memory, Call, plan_edges, job_of}
 use Rattle.search.specs.Outcome.{no_route, figures}
@@ -11,7 +12,7 @@ abbrev pub inquiry_of : Call → List ℕ → List ℕ → Inquiry
 inquiry_of c vertices edges = record { call = c; vertices = vertices; edges = edges }
 
 -- r is answered; m is the call's memory then, and these are the lists
-pub record Explained (x : Inquiry) (r : Explanation) (m : Memory) (vertices edges : List ℕ) : Type 0 where
+pub record Explained (x : Inquiry) (r : Explanation Refusal) (m : Memory) (vertices edges : List ℕ) : Type 0 where
   pub answers : r ≡ explanation x
   pub memory_is : m ≡ call_memory x
   pub vertices_are : vertices ≡ vertices_after x

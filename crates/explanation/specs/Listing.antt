@@ -44,7 +44,7 @@ unfoldable pub leaving_in : Result Answer Refusal → Size → ℕ → Words →
 leaving_in a z barred m = listed_at a (numbers_of (leaves barred (vertices_of z m)) 0 (graph_of z m.work))
 
 -- what is answered, and the lists
-pub record Lists (a : Result Answer Refusal) (z : Size) (barred : ℕ) (m : Words) (vertices edges : List ℕ) (r : Explanation) (vertices' edges' : List ℕ) : Type 0 where
+pub record Lists (a : Result Answer Refusal) (z : Size) (barred : ℕ) (m : Words) (vertices edges : List ℕ) (r : Explanation Refusal) (vertices' edges' : List ℕ) : Type 0 where
   pub answer_is : r.answer ≡ a
   pub vertex_count : r.vertices ≡ length (reached_in a z m)
   pub edge_count : r.edges ≡ length (leaving_in a z barred m)

@@ -62,7 +62,7 @@ fn list(
     barred: u32,
     vertices: &mut [u32],
     edges: &mut [u32],
-) -> Explanation
+) -> Explanation<Refusal>
     requires { Listable answer size (mem work.old wide.old) vertices.old edges.old }
     ensures lists { Lists answer size barred (mem work.old wide.old) vertices.old edges.old result vertices.new edges.new }
     ensures same { (work.new ≡ work.old) × (wide.new ≡ wide.old) }
@@ -94,7 +94,7 @@ pub fn explain(
     wide: &mut [u64],
     vertices: &mut [u32],
     edges: &mut [u32],
-) -> Explanation
+) -> Explanation<Refusal>
     ensures { Explained (inquiry_of (call_with call.now (memory_of route.old log.old work.old wide.old)) vertices.old edges.old) result (memory_of route.new log.new work.new wide.new) vertices.new edges.new }
 {
     let size = size(call.bytes);

@@ -27,12 +27,12 @@ exported c a figs m e p =
     }
 
 pub exported_reason :
-    (x : Inquiry) (e : Explanation) (figs : List ℕ) (m : Memory) (vertices edges : List ℕ) → figs ≡ explanation_figures e →
+    (x : Inquiry) (e : Explanation Refusal) (figs : List ℕ) (m : Memory) (vertices edges : List ℕ) → figs ≡ explanation_figures e →
     Explained x e m vertices edges → ExportedReason x figs m vertices edges
 exported_reason x e figs m vertices edges q y =
     record {
       figures_are = q ∙ ap explanation_figures y.answers;
-      explained = subst (λ (u : Explanation). Explained x u m vertices edges) y.answers y;
+      explained = subst (λ (u : Explanation Refusal). Explained x u m vertices edges) y.answers y;
     }
 
 -- a sheet is rejected: refusal 10, and nothing is written

@@ -8,17 +8,18 @@ ghost use Rattle.ffi_planner.specs.Explanations.{ShowsReason, ExportedReason};
 
 use crate::Figures;
 use admission::Call;
+use graph::refusal::Refusal;
 use search::Explanation;
 
 // An explanation as ten figures, those of the call's answer, then how many vertices and edges are listed.
 #[derive(Clone, Copy)]
 pub struct ReasonFigures(pub [u64; 10]);
 
-impl From<Explanation> for ReasonFigures {
+impl From<Explanation<Refusal>> for ReasonFigures {
     ghost from_gives = { ShowsReason };
 
     #[tactic(auto, unfolding(crate::specs::Explanations::explanation_figures, crate::specs::Calls::answer_figures, crate::specs::Calls::eight))]
-    fn from(explanation: Explanation) -> ReasonFigures {
+    fn from(explanation: Explanation<Refusal>) -> ReasonFigures {
         let Figures(f) = Figures::from(explanation.answer);
         ReasonFigures([
             f[0],

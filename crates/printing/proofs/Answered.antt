@@ -1,20 +1,24 @@
 -- How long the text of an answer is, and a whole text from a buffer's front on.
 use Prim.Native.Nat.{ℕ, ◌^◌, ◌≤◌, ◌<◌}
 use native.Mathlib.Omega.{arith}
-use mathlib.Core.Path.{◌≡◌}
+use mathlib.Core.Path.{◌≡◌, refl}
 use mathlib.Core.List.{List, ◌++◌}
 use lib.ListN.{length, take, length-append}
 use Rattle.std.specs.Borrow.{MutBor}
+use Rattle.std.specs.Prelude.{Result, Ok, Err}
 use Rattle.text.specs.Text.{turn_lines, no_route_line, unfinished_line, refused_line}
 use Rattle.graph.specs.Refusal.{number_of}
 use Rattle.graph.specs.declared.refusal.Cause.{Cause}
 use Rattle.graph.specs.declared.refusal.Cause.TheVariants as cause
 use Rattle.graph.specs.declared.refusal.Refusal.{Refusal}
 use Rattle.search.specs.declared.Summary.{Summary}
+use Rattle.search.specs.declared.Answer.{Answer}
+use Rattle.search.specs.Outcome.{figures}
 use Rattle.job.specs.Asked.{route_size, log_size}
 use Rattle.job.specs.Texts.{max_end, max_text, Texts}
 use Rattle.job.proofs.Lines.{alone, Words, turns_few, route_few, end_few, no_route_few, unfinished_few, refused_few}
 use Rattle.printing.specs.declared.writer.Writer.{Writer}
+use Rattle.printing.specs.Shown.{refusal_shown, figures_by}
 use Rattle.printing.specs.Writing.{Starts, Wrote, route_end, route_text}
 
 -- the numbers of a summary are of 64 bits
@@ -64,6 +68,12 @@ few_causes cause.Class = omega arith
 
 pub refusal_few : (e : Refusal) → e.at < 2 ^ 64 → length (refused_line (number_of e.cause) e.at) ≤ 53
 refusal_few e h = refused_few (number_of e.cause) e.at (omega (arith, few_causes e.cause)) h
+
+-- by a row of the table the figures are the answer's own
+pub figures_shown : (a : Result Answer Refusal) → figures_by refusal_shown a ≡ figures a
+unfolding figures_by figures
+figures_shown (Ok a) = refl
+figures_shown (Err e) = refl
 
 -- a text written from the front on, as the buffer is left
 pub whole :

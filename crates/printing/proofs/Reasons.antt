@@ -12,7 +12,7 @@ use Rattle.printing.specs.Shown.{Listed}
 use Rattle.printing.specs.Writing.{reason_text}
 
 pub reason_few :
-    (turns : ℕ) (e : Explanation) (z : Size) (work vertices edges : List ℕ) → turns < 2 ^ 32 → Words vertices →
+    {R : Type 0} (turns : ℕ) (e : Explanation R) (z : Size) (work vertices edges : List ℕ) → turns < 2 ^ 32 → Words vertices →
     Listed z work vertices (take e.edges edges) → length (reason_text turns e (graph_of z work) vertices edges) ≤ max_text
 reason_few turns e z work vertices edges small words l =
     simp length-append

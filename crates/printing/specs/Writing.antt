@@ -32,6 +32,6 @@ route_text s route log = turn_lines (take s.expansions log) ++ route_end s route
 abbrev pub turns_text : List ℕ → ℕ → List ℕ → List ℕ
 turns_text words turns log = turn_lines (take turns log) ++ (field words turns ++ newline)
 
-abbrev pub reason_text : ℕ → Explanation → List Edge → List ℕ → List ℕ → List ℕ
+abbrev pub reason_text : {R : Type 0} → ℕ → Explanation R → List Edge → List ℕ → List ℕ → List ℕ
 reason_text turns e graph vertices edges =
     no_route_line turns ++ (reach_line (take e.vertices vertices) ++ each (edge_line graph) 0 (take e.edges edges))

@@ -5,16 +5,17 @@
 mod end_lines;
 mod lines;
 mod reason_lines;
+pub mod refused;
 mod writer;
 
 ghost use Rattle.std.specs.Prelude.{◌≡◌, Ok};
-ghost use Rattle.graph.specs.Refusal.{number_of};
+ghost use Rattle.search.specs.Outcome.{figures};
 ghost use Rattle.job.specs.Texts.{BenchSized};
 ghost use Rattle.workspace.specs.Layout.{graph_of};
-ghost use Rattle.printing.specs.Shown.{Shown, Refuses, Explainable, ExplainedShown};
+ghost use Rattle.printing.specs.Shown.{figures_by, Shown, Refuses, Explainable, ExplainedShown};
 
 use graph::Size;
-use graph::refusal::Refusal;
+use refused::Refused;
 use search::{Answer, Explanation};
 use workspace::Graph;
 use writer::Writer;
@@ -31,7 +32,7 @@ pub fn put_refused(out: &mut [u8], number: u32, position: usize) -> usize
 // The text of a search, with route and log memory after it.
 fn put_search(out: &mut [u8], answer: Answer, route: &[u32], log: &[u32]) -> usize
     requires { BenchSized route.now log.now }
-    ensures { Shown (Ok answer) route.now log.now out.old result out.new }
+    ensures { Shown (figures (Ok answer)) route.now log.now out.old result out.new }
 {
     let mut text = Writer::new(out);
     match answer {
@@ -42,36 +43,38 @@ fn put_search(out: &mut [u8], answer: Answer, route: &[u32], log: &[u32]) -> usi
     text.at
 }
 
-// The answer's text, with route and log memory after the call.
-#[tactic(auto, unfolding(search::specs::Outcome::figures, job::specs::Printed::printed, job::specs::Printed::last_lines, job::specs::Printed::turns, text::specs::Text::turn_lines, text::specs::Text::each))]
-pub fn put_answer(
+// The answer's text, with route and log memory after the call. A refusal may have any number, as `put_refused` takes it.
+pub fn put_answer<R: Refused + Copy>(
     out: &mut [u8],
-    answer: Result<Answer, Refusal>,
+    answer: Result<Answer, R>,
     route: &[u32],
     log: &[u32],
 ) -> usize
     requires { BenchSized route.now log.now }
-    ensures { Shown answer route.now log.now out.old result out.new }
+    ensures { Shown (figures_by R.shown answer) route.now log.now out.old result out.new }
 {
     match answer {
         Ok(answer) => put_search(out, answer, route, log),
-        Err(refusal) => put_refused(out, refusal.cause.number(), refusal.at),
+        Err(refused) => {
+            let (number, position) = refused.show();
+            put_refused(out, number, position)
+        }
     }
 }
 
 // The text of an explanation whose call was not refused, with the call's answer.
-fn put_reason(
+fn put_reason<R: Refused + Copy>(
     out: &mut [u8],
     answer: Answer,
-    explanation: Explanation,
+    explanation: Explanation<R>,
     route: &[u32],
     work: &[u32],
     z: Size,
     vertices: &[u32],
     edges: &[u32],
 ) -> usize
-    requires { (explanation.answer ≡ Ok answer) × Explainable explanation z route.now work.now vertices.now edges.now }
-    ensures { ExplainedShown explanation route.now (graph_of z work.now) vertices.now edges.now out.old result out.new }
+    requires { (explanation.answer ≡ Ok answer) × Explainable R.shown explanation z route.now work.now vertices.now edges.now }
+    ensures { ExplainedShown R.shown explanation route.now (graph_of z work.now) vertices.now edges.now out.old result out.new }
 {
     let mut text = Writer::new(out);
     match answer {
@@ -90,20 +93,23 @@ fn put_reason(
 
 // An explanation's text, with route and work memory and both lists after it, the C interface's; a graph is there only
 // after the answer `no route`.
-pub fn put_explanation(
+pub fn put_explanation<R: Refused + Copy>(
     out: &mut [u8],
-    explanation: Explanation,
+    explanation: Explanation<R>,
     route: &[u32],
     work: &[u32],
     z: Size,
     vertices: &[u32],
     edges: &[u32],
 ) -> usize
-    requires { Explainable explanation z route.now work.now vertices.now edges.now }
-    ensures { ExplainedShown explanation route.now (graph_of z work.now) vertices.now edges.now out.old result out.new }
+    requires { Explainable R.shown explanation z route.now work.now vertices.now edges.now }
+    ensures { ExplainedShown R.shown explanation route.now (graph_of z work.now) vertices.now edges.now out.old result out.new }
 {
     match explanation.answer {
         Ok(answer) => put_reason(out, answer, explanation, route, work, z, vertices, edges),
-        Err(refusal) => put_refused(out, refusal.cause.number(), refusal.at),
+        Err(refused) => {
+            let (number, position) = refused.show();
+            put_refused(out, number, position)
+        }
     }
 }

@@ -42,10 +42,10 @@ impl Writer<'_> {
 
     // Why there is no route: that there is none, the vertices that can be reached, and the barred edges that leave
     // them, as many as are answered.
-    pub(crate) fn reason(
+    pub(crate) fn reason<R: Copy>(
         &mut self,
         turns: u32,
-        explanation: Explanation,
+        explanation: Explanation<R>,
         graph: Graph<'_>,
         vertices: &[u32],
         edges: &[u32],

@@ -93,7 +93,7 @@ edges_listed x = listed_at (answered x) (leaving x.call)
 
 -- ---- what is handed over
 
-unfoldable pub explanation : Inquiry → Explanation
+unfoldable pub explanation : Inquiry → Explanation Refusal
 explanation x = record { answer = answered x; vertices = length (vertices_listed x); edges = length (edges_listed x) }
 
 -- each list stands over what was there

@@ -7,23 +7,24 @@ use Rattle.search.specs.Outcome.{figures}
 use Rattle.job.specs.Printed.{last_lines}
 use Rattle.job.specs.Explained.{reason_lines}
 use Rattle.job.proofs.Lines.{unfinished_few}
+use Rattle.printing.specs.Shown.{figures_by}
 use Rattle.printing.proofs.Answered.{route_end_few, whole}
 use Rattle.printing.proofs.Reasons.{reason_few}
 use Rattle.printing.proofs.put_reason.Goals.{in-Route, in-NoRoute, in-Unfinished}
 use Rattle.printing.proofs.put_reason.Goals as goal
 
 pub route_end-requires : goal.route_end-requires
-route_end-requires c =
+route_end-requires g c =
     let few = route_end_few c.in-Route.summary c.args.route.now c.type_inv.route c.requires.1.short_route (omega arith, omega arith, omega arith, omega arith) in
     omega (arith, c.new-text.ensures.front, few)
 
 pub invariant_of-graph : goal.invariant_of-graph
-unfolding figures
-invariant_of-graph c = record { loaded = (c.requires.1.listed (rw (c.requires.0, c.in-NoRoute.is))).whole.graph }
+unfolding figures figures_by
+invariant_of-graph g c = record { loaded = (c.requires.1.listed (rw (c.requires.0, c.in-NoRoute.is))).whole.graph }
 
 pub reason-requires : goal.reason-requires
-unfolding figures
-reason-requires c =
+unfolding figures figures_by
+reason-requires g c =
     let a = c.args in
     let l = c.requires.1.listed (rw (c.requires.0, c.in-NoRoute.is)) in
     let few = reason_few c.in-NoRoute.turns a.explanation a.z a.work.now a.vertices.now a.edges.now (omega arith) c.type_inv.vertices l in
@@ -31,11 +32,11 @@ reason-requires c =
 
 pub turns_line-requires : goal.turns_line-requires
 unfolding ascii unfinished_line
-turns_line-requires c = omega (arith, c.new-text.ensures.front, unfinished_few c.in-Unfinished.turns (omega arith))
+turns_line-requires g c = omega (arith, c.new-text.ensures.front, unfinished_few c.in-Unfinished.turns (omega arith))
 
 pub returns : goal.returns
-unfolding ascii unfinished_line figures last_lines reason_lines
-returns c =
+unfolding ascii unfinished_line figures figures_by last_lines reason_lines
+returns g c =
     let a = c.args in
     let starts = c.new-text.ensures in
     elim c.match-answer.branch [

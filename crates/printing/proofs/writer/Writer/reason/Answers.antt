@@ -10,7 +10,7 @@ use Rattle.printing.proofs.writer.Writer.reason.Goals as goal
 
 pub turns_line-requires : goal.turns_line-requires
 unfolding ascii no_route_line
-turns_line-requires c =
+turns_line-requires g c =
     let a = c.args in
     first_counted a.self.now.at (no_route_line a.turns)
     (reach_line (take a.explanation.vertices a.vertices.now) ++ each (edge_line (graph_edges a.graph)) 0 (take a.explanation.edges a.edges.now))
@@ -18,7 +18,7 @@ turns_line-requires c =
 
 pub vertices_line-requires : goal.vertices_line-requires
 unfolding ascii no_route_line reach_line
-vertices_line-requires c =
+vertices_line-requires g c =
     let a = c.args in
     rw c.first.ensures
     (first_counted c.turns_line.new.self.at (reach_line (take a.explanation.vertices a.vertices.now))
@@ -27,7 +27,7 @@ vertices_line-requires c =
 
 pub edge_lines-requires : goal.edge_lines-requires
 unfolding ascii no_route_line reach_line
-edge_lines-requires c =
+edge_lines-requires g c =
     rw c.first-2.ensures (
       c.requires.0,
       c.requires.1,
@@ -36,6 +36,6 @@ edge_lines-requires c =
 
 pub returns : goal.returns
 unfolding ascii no_route_line reach_line
-returns c =
+returns g c =
     then_wrote c.turns_line.ensures
     (then_wrote (rw c.first.ensures at c.vertices_line.ensures) (rw c.first-2.ensures at c.edge_lines.ensures))
