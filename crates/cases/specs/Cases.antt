@@ -40,7 +40,7 @@ pub record PlanRefused (bytes : List ℕ) (n : Cause) (p : ℕ) : Type 0 where
   pub read : (ts hs cs ks : List ℕ) → read_answer bytes ts hs cs ks ≡ Err (refusal_of n p)
   pub called : (c : Call) → c.bytes ≡ bytes → HandsOver c (refused_at (number_of n) p) c.memory
 
--- the causes of the table of refusals, in its order
+-- the causes of all refusals, by their numbers
 abbrev pub causes : List Cause
 causes =
     cause.Number ∷ cause.VertexCount ∷ cause.EdgeCount ∷ cause.Vertex ∷ cause.Cost ∷ cause.Order ∷ cause.LeftOver ∷ cause.Ends
@@ -223,7 +223,7 @@ pub record Cases : Type 0 where
       (m : Memory) → Enough 2 0 m → HandsOver (two_vertices barred ws default budget m) (no_route_after 1) (two_vertices_after m)
   -- (p) Start = goal, allowance 0, valid tables: cost 0, every round finished. So of every call that is not refused
   pub start_is_goal : (c : Call) → Admitted c → c.start ≡ c.goal → HandsOver c (all_rounds c) (start_alone c)
-  -- the numbers of the causes that rows of this crate name: 1 to 15 in the table's order
+  -- the number of each cause: 1 to 15
   pub numbers : map number_of causes ≡ 1 ∷ 2 ∷ 3 ∷ 4 ∷ 5 ∷ 6 ∷ 7 ∷ 8 ∷ 9 ∷ 10 ∷ 11 ∷ 12 ∷ 13 ∷ 14 ∷ 15 ∷ []
   -- (p) no bytes: 1 at 0
   pub no_bytes : PlanRefused [] cause.Number 0

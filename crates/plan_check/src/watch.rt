@@ -14,7 +14,7 @@ pub trait Watch {
 
 // No watch: the edges are read, and no more.
 #[derive(Clone, Copy)]
-pub(crate) struct Unwatched;
+pub struct Unwatched;
 
 impl Watch for Unwatched {
     ghost seen = { λ it i edge. it };

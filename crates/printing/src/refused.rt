@@ -4,7 +4,7 @@ ghost use Rattle.printing.specs.Shown.{refusal_shown};
 
 use graph::refusal::Refusal;
 
-// A refusal by a row of the table, or by any other number.
+// A refusal by a row of the table, or one given as a number and a position.
 pub trait Refused {
     ghost shown: { Self → ℕ × ℕ };
 
